@@ -1,0 +1,4 @@
+pub mod Product
+pub mod Flipped
+pub mod Signed
+pub mod Shift

@@ -1,0 +1,54 @@
+use Rattle.machine.proofs.Offsets.{offset-past}
+use Prim.Native.Nat.{_+_, _-_, _/_}
+use lib.ListN.{length}
+use mathlib.Core.Path.{refl}
+use native.Mathlib.Omega.{arith}
+use borrow.Author.Tests.{lt-ltb, le-ltb, le-leb, lt-leb, eq-eqb, ne-eqb}
+use Rattle.machine.specs.Table.{effectOf, row}
+use borrow.Author.Needs.{needs}
+use Rattle.core_instructions.proofs.offsets.storesp.Statement.{statement}
+use Rattle.core_instructions.proofs.offsets.storesp.Tie as tie
+use Rattle.core_instructions.proofs.offsets.storesp.Reads as reads
+use Rattle.core_instructions.proofs.offsets.storesp.Lts as lts
+use Rattle.machine.proofs.State.next.Reads as next-reads
+use Rattle.memory.proofs.read_word.Reads as read-word-reads
+use Rattle.memory.proofs.write_word.Reads as write-word-reads
+
+add-at : tie.Need-add-at
+add-at c = search needs
+
+returns : tie.Need-returns
+unfolding effectOf row
+returns c = let a = c .before .before .args in rw (offset-past (a .image .now) (a .s) (a .n) _ (omega arith)) (refl, refl)
+
+read-word-requires : tie.Need-read-word-requires
+read-word-requires c κs = search needs
+
+write-word-requires : tie.Need-write-word-requires
+write-word-requires c κs = search needs
+
+add-t7 : tie.Need-add-t7
+add-t7 c = search needs
+
+next-requires : tie.Need-next-requires
+next-requires c κs = search needs
+
+same-length : tie.Need-same-length
+same-length c = search needs
+
+returns-2 : tie.Need-returns-2
+unfolding effectOf row
+returns-2 c = let a = c .before .before .before .before .before .before .before .before .before .args in simp (lt-ltb (a .s .sp .0) (length (a .image .now) / 4) (omega arith), lt-ltb (a .s .sp .0 + a .n) (length (a .image .now) / 4) (omega arith)) ((cc), (cc))
+
+pub storesp-spec : {M : Type 1} → statement M
+storesp-spec =
+    tie.close
+    (tie.spec
+    add-at
+    returns
+    read-word-requires
+    write-word-requires
+    add-t7
+    next-requires
+    same-length
+    returns-2)

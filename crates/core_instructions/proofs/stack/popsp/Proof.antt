@@ -1,0 +1,40 @@
+use Rattle.memory.specs.Memory.{word}
+use Prim.Native.Nat.{_+_, _-_, _/_}
+use lib.ListN.{length}
+use mathlib.Core.Path.{refl}
+use native.Mathlib.Omega.{arith}
+use borrow.Author.Tests.{lt-ltb, le-ltb, le-leb, lt-leb, eq-eqb, ne-eqb}
+use Rattle.machine.specs.Table.{effectOf, row}
+use borrow.Author.Needs.{needs}
+use Rattle.core_instructions.proofs.stack.popsp.Statement.{statement}
+use Rattle.core_instructions.proofs.stack.popsp.Tie as tie
+use Rattle.core_instructions.proofs.stack.popsp.Reads as reads
+use Rattle.core_instructions.proofs.stack.popsp.Lts as lts
+use Rattle.machine.proofs.State.next.Reads as next-reads
+use Rattle.memory.proofs.ByteAddr.word.Reads as word-reads
+use Rattle.memory.proofs.read_word.Reads as read-word-reads
+
+returns : tie.Need-returns
+unfolding effectOf row
+returns c = let a = c .before .before .args in simp (le-ltb (a .s .sp .0) (length (a .image .now) / 4) (omega arith)) (refl, refl)
+
+read-word-requires : tie.Need-read-word-requires
+read-word-requires c κs = search needs
+
+word-requires : tie.Need-word-requires
+word-requires c κs = search needs
+
+returns-2 : tie.Need-returns-2
+unfolding effectOf row
+returns-2 c = let a = c .before .before .before .before .before .args in simp (lt-ltb (a .s .sp .0) (length (a .image .now) / 4) (omega arith), lt-leb (word (a .image .now) (a .s .sp .0) / 4) (length (a .image .now) / 4) (omega arith)) (refl, refl)
+
+next-requires : tie.Need-next-requires
+next-requires c κs = search needs
+
+returns-3 : tie.Need-returns-3
+unfolding effectOf row
+returns-3 c = let a = c .before .before .before .before .before .before .args in simp (lt-ltb (a .s .sp .0) (length (a .image .now) / 4) (omega arith), le-leb (word (a .image .now) (a .s .sp .0) / 4) (length (a .image .now) / 4) (omega arith)) ((cc), refl)
+
+pub popsp-spec : {M : Type 1} → statement M
+popsp-spec =
+    tie.close (tie.spec returns read-word-requires word-requires returns-2 next-requires returns-3)

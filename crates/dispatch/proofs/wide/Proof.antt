@@ -1,0 +1,345 @@
+use Rattle.dispatch.proofs.Rest.{rest, back}
+use Prim.Native.Nat.{_-_}
+use Rattle.machine.specs.Instructions.{wide}
+use mathlib.Core.Logic.{inl, inr}
+use mathlib.Core.Path.{refl}
+use Rattle.machine.specs.Table.{effectOf, row}
+use borrow.Author.Needs.{needs}
+use Rattle.dispatch.proofs.wide.Statement.{statement}
+use Rattle.dispatch.proofs.wide.Tie as tie
+use Rattle.dispatch.proofs.wide.Reads as reads
+use Rattle.dispatch.proofs.wide.Lts as lts
+use Rattle.word_instructions.proofs.binary.Reads as binary-reads
+use Rattle.word_instructions.proofs.load.Reads as load-reads
+use Rattle.word_instructions.proofs.store.Reads as store-reads
+use Rattle.word_instructions.proofs.unary.Reads as unary-reads
+use Rattle.wide_instructions.proofs.call.Reads as call-reads
+use Rattle.wide_instructions.proofs.callpcrel.Reads as callpcrel-reads
+use Rattle.wide_instructions.proofs.eqbranch.Reads as eqbranch-reads
+use Rattle.wide_instructions.proofs.neqbranch.Reads as neqbranch-reads
+use Rattle.wide_instructions.proofs.poppcrel.Reads as poppcrel-reads
+use Rattle.word_instructions.proofs.division.Reads as division-reads
+use Rattle.wide_instructions.proofs.pushpc.Reads as pushpc-reads
+use Rattle.wide_instructions.proofs.pushspadd.Reads as pushspadd-reads
+
+load-requires : tie.Need-load-requires
+load-requires c κs = search needs
+
+store-requires : tie.Need-store-requires
+store-requires c κs = search needs
+
+binary-requires : tie.Need-binary-requires
+binary-requires c κs = search needs
+
+binary-requires-2 : tie.Need-binary-requires-2
+binary-requires-2 c κs = search needs
+
+binary-requires-3 : tie.Need-binary-requires-3
+binary-requires-3 c κs = search needs
+
+binary-requires-4 : tie.Need-binary-requires-4
+binary-requires-4 c κs = search needs
+
+binary-requires-5 : tie.Need-binary-requires-5
+binary-requires-5 c κs = search needs
+
+binary-requires-6 : tie.Need-binary-requires-6
+binary-requires-6 c κs = search needs
+
+binary-requires-7 : tie.Need-binary-requires-7
+binary-requires-7 c κs = search needs
+
+binary-requires-8 : tie.Need-binary-requires-8
+binary-requires-8 c κs = search needs
+
+call-requires : tie.Need-call-requires
+call-requires c κs = search needs
+
+binary-requires-9 : tie.Need-binary-requires-9
+binary-requires-9 c κs = search needs
+
+binary-requires-10 : tie.Need-binary-requires-10
+binary-requires-10 c κs = search needs
+
+unary-requires : tie.Need-unary-requires
+unary-requires c κs = search needs
+
+binary-requires-11 : tie.Need-binary-requires-11
+binary-requires-11 c κs = search needs
+
+binary-requires-12 : tie.Need-binary-requires-12
+binary-requires-12 c κs = search needs
+
+load-requires-2 : tie.Need-load-requires-2
+load-requires-2 c κs = search needs
+
+store-requires-2 : tie.Need-store-requires-2
+store-requires-2 c κs = search needs
+
+division-requires : tie.Need-division-requires
+division-requires c κs = search needs
+
+division-requires-2 : tie.Need-division-requires-2
+division-requires-2 c κs = search needs
+
+eqbranch-requires : tie.Need-eqbranch-requires
+eqbranch-requires c κs = search needs
+
+neqbranch-requires : tie.Need-neqbranch-requires
+neqbranch-requires c κs = search needs
+
+poppcrel-requires : tie.Need-poppcrel-requires
+poppcrel-requires c κs = search needs
+
+pushpc-requires : tie.Need-pushpc-requires
+pushpc-requires c κs = search needs
+
+pushspadd-requires : tie.Need-pushspadd-requires
+pushspadd-requires c κs = search needs
+
+callpcrel-requires : tie.Need-callpcrel-requires
+callpcrel-requires c κs = search needs
+
+same-length : tie.Need-same-length
+same-length c = search needs
+
+returns : tie.Need-returns
+returns c = rw (c .before .before .before .before .match .keys1) ((cc), (cc))
+
+same-length-2 : tie.Need-same-length-2
+same-length-2 c = search needs
+
+returns-2 : tie.Need-returns-2
+returns-2 c = rw (c .before .before .before .before .match .keys2) ((cc), (cc))
+
+same-length-3 : tie.Need-same-length-3
+same-length-3 c = search needs
+
+returns-3 : tie.Need-returns-3
+returns-3 c = rw (c .before .before .before .before .match .keys3) ((cc), (cc))
+
+same-length-4 : tie.Need-same-length-4
+same-length-4 c = search needs
+
+returns-4 : tie.Need-returns-4
+returns-4 c = rw (c .before .before .before .before .match .keys4) ((cc), (cc))
+
+same-length-5 : tie.Need-same-length-5
+same-length-5 c = search needs
+
+returns-5 : tie.Need-returns-5
+returns-5 c = rw (c .before .before .before .before .match .keys5) ((cc), (cc))
+
+same-length-6 : tie.Need-same-length-6
+same-length-6 c = search needs
+
+returns-6 : tie.Need-returns-6
+returns-6 c = rw (c .before .before .before .before .match .keys6) ((cc), (cc))
+
+same-length-7 : tie.Need-same-length-7
+same-length-7 c = search needs
+
+returns-7 : tie.Need-returns-7
+returns-7 c = rw (c .before .before .before .before .match .keys7) ((cc), (cc))
+
+same-length-8 : tie.Need-same-length-8
+same-length-8 c = search needs
+
+returns-8 : tie.Need-returns-8
+returns-8 c = rw (c .before .before .before .before .match .keys8) ((cc), (cc))
+
+same-length-9 : tie.Need-same-length-9
+same-length-9 c = search needs
+
+returns-9 : tie.Need-returns-9
+returns-9 c = rw (c .before .before .before .before .match .keys9) ((cc), (cc))
+
+same-length-10 : tie.Need-same-length-10
+same-length-10 c = search needs
+
+returns-10 : tie.Need-returns-10
+returns-10 c = rw (c .before .before .before .before .match .keys10) ((cc), (cc))
+
+same-length-11 : tie.Need-same-length-11
+same-length-11 c = search needs
+
+returns-11 : tie.Need-returns-11
+returns-11 c = rw (c .before .before .before .before .match .keys11) ((cc), (cc))
+
+same-length-12 : tie.Need-same-length-12
+same-length-12 c = search needs
+
+returns-12 : tie.Need-returns-12
+returns-12 c = rw (c .before .before .before .before .match .keys12) ((cc), (cc))
+
+same-length-13 : tie.Need-same-length-13
+same-length-13 c = search needs
+
+returns-13 : tie.Need-returns-13
+returns-13 c = rw (c .before .before .before .before .match .keys13) ((cc), (cc))
+
+same-length-14 : tie.Need-same-length-14
+same-length-14 c = search needs
+
+returns-14 : tie.Need-returns-14
+returns-14 c = rw (c .before .before .before .before .match .keys14) ((cc), (cc))
+
+same-length-15 : tie.Need-same-length-15
+same-length-15 c = search needs
+
+returns-15 : tie.Need-returns-15
+returns-15 c = rw (c .before .before .before .before .match .keys15) ((cc), (cc))
+
+same-length-16 : tie.Need-same-length-16
+same-length-16 c = search needs
+
+returns-16 : tie.Need-returns-16
+returns-16 c = rw (c .before .before .before .before .match .keys16) ((cc), (cc))
+
+same-length-17 : tie.Need-same-length-17
+same-length-17 c = search needs
+
+returns-17 : tie.Need-returns-17
+returns-17 c = rw (c .before .before .before .before .match .keys17) ((cc), (cc))
+
+same-length-18 : tie.Need-same-length-18
+same-length-18 c = search needs
+
+returns-18 : tie.Need-returns-18
+returns-18 c = rw (c .before .before .before .before .match .keys18) ((cc), (cc))
+
+same-length-19 : tie.Need-same-length-19
+same-length-19 c = search needs
+
+returns-19 : tie.Need-returns-19
+returns-19 c = rw (c .before .before .before .before .match .keys19) ((cc), (cc))
+
+same-length-20 : tie.Need-same-length-20
+same-length-20 c = search needs
+
+returns-20 : tie.Need-returns-20
+returns-20 c = rw (c .before .before .before .before .match .keys20) ((cc), (cc))
+
+same-length-21 : tie.Need-same-length-21
+same-length-21 c = search needs
+
+returns-21 : tie.Need-returns-21
+returns-21 c = rw (c .before .before .match .keys21) ((cc), (cc))
+
+same-length-22 : tie.Need-same-length-22
+same-length-22 c = search needs
+
+returns-22 : tie.Need-returns-22
+returns-22 c = rw (c .before .before .match .keys22) ((cc), (cc))
+
+same-length-23 : tie.Need-same-length-23
+same-length-23 c = search needs
+
+returns-23 : tie.Need-returns-23
+returns-23 c = rw (c .before .before .match .keys23) ((cc), (cc))
+
+same-length-24 : tie.Need-same-length-24
+same-length-24 c = search needs
+
+returns-24 : tie.Need-returns-24
+returns-24 c = rw (c .before .before .before .before .match .keys24) ((cc), (cc))
+
+same-length-25 : tie.Need-same-length-25
+same-length-25 c = search needs
+
+returns-25 : tie.Need-returns-25
+returns-25 c = rw (c .before .before .before .before .match .keys25) ((cc), (cc))
+
+same-length-26 : tie.Need-same-length-26
+same-length-26 c = search needs
+
+returns-26 : tie.Need-returns-26
+returns-26 c = rw (c .before .before .before .before .match .keys26) ((cc), (cc))
+
+returns-27 : tie.Need-returns-27
+unfolding effectOf row
+returns-27 c = rw (rest wide 32 (c .before .before .args .byte - 32) (c .before .before .args .byte) (back 32 (c .before .before .args .byte) (c .before .before .pre .1)) (inr refl, (inr refl, (inl (c .match .rest .0 .0 .0 .0 .0 .0 .0 .0 .0 .0 .0 .0 .0 .0 .0 .0 .0 .0 .0 .0 .0 .0 .0 .0 .0 .1), (inl (c .match .rest .0 .0 .0 .0 .0 .0 .0 .0 .0 .0 .0 .0 .0 .0 .0 .0 .0 .0 .0 .0 .0 .0 .0 .0 .1), (inl (c .match .rest .0 .0 .0 .0 .0 .0 .0 .0 .0 .0 .0 .0 .0 .0 .0 .0 .0 .0 .0 .0 .0 .0 .0 .1), (inl (c .match .rest .0 .0 .0 .0 .0 .0 .0 .0 .0 .0 .0 .0 .0 .0 .0 .0 .0 .0 .0 .0 .0 .0 .1), (inl (c .match .rest .0 .0 .0 .0 .0 .0 .0 .0 .0 .0 .0 .0 .0 .0 .0 .0 .0 .0 .0 .0 .0 .1), (inl (c .match .rest .0 .0 .0 .0 .0 .0 .0 .0 .0 .0 .0 .0 .0 .0 .0 .0 .0 .0 .0 .0 .1), (inr refl, (inl (c .match .rest .0 .0 .0 .0 .0 .0 .0 .0 .0 .0 .0 .0 .0 .0 .0 .0 .0 .0 .0 .1), (inl (c .match .rest .0 .0 .0 .0 .0 .0 .0 .0 .0 .0 .0 .0 .0 .0 .0 .0 .0 .0 .1), (inl (c .match .rest .0 .0 .0 .0 .0 .0 .0 .0 .0 .0 .0 .0 .0 .0 .0 .0 .0 .1), (inl (c .match .rest .0 .0 .0 .0 .0 .0 .0 .0 .0 .0 .0 .0 .0 .0 .0 .0 .1), (inl (c .match .rest .0 .0 .0 .0 .0 .0 .0 .0 .0 .0 .0 .0 .0 .0 .0 .1), (inl (c .match .rest .0 .0 .0 .0 .0 .0 .0 .0 .0 .0 .0 .0 .0 .0 .1), (inl (c .match .rest .0 .0 .0 .0 .0 .0 .0 .0 .0 .0 .0 .0 .0 .1), (inl (c .match .rest .0 .0 .0 .0 .0 .0 .0 .0 .0 .0 .0 .0 .1), (inl (c .match .rest .0 .0 .0 .0 .0 .0 .0 .0 .0 .0 .0 .1), (inl (c .match .rest .0 .0 .0 .0 .0 .0 .0 .0 .0 .0 .1), (inl (c .match .rest .0 .0 .0 .0 .0 .0 .0 .0 .0 .1), (inl (c .match .rest .0 .0 .0 .0 .0 .0 .0 .0 .1), (inl (c .match .rest .0 .0 .0 .0 .0 .0 .0 .1), (inl (c .match .rest .0 .0 .0 .0 .0 .0 .1), (inl (c .match .rest .0 .0 .0 .0 .0 .1), (inl (c .match .rest .0 .0 .0 .0 .1), (inl (c .match .rest .0 .0 .0 .1), (inr refl, (inl (c .match .rest .0 .0 .1), (inr refl, (inl (c .match .rest .0 .1), (inr refl, (inl (c .match .rest .1), tt))))))))))))))))))))))))))))))))) (refl, refl)
+
+pub wide-spec : {M : Type 1} → statement M
+wide-spec =
+    tie.close
+    (tie.spec
+    load-requires
+    store-requires
+    binary-requires
+    binary-requires-2
+    binary-requires-3
+    binary-requires-4
+    binary-requires-5
+    binary-requires-6
+    binary-requires-7
+    binary-requires-8
+    call-requires
+    binary-requires-9
+    binary-requires-10
+    unary-requires
+    binary-requires-11
+    binary-requires-12
+    load-requires-2
+    store-requires-2
+    division-requires
+    division-requires-2
+    eqbranch-requires
+    neqbranch-requires
+    poppcrel-requires
+    pushpc-requires
+    pushspadd-requires
+    callpcrel-requires
+    same-length
+    returns
+    same-length-2
+    returns-2
+    same-length-3
+    returns-3
+    same-length-4
+    returns-4
+    same-length-5
+    returns-5
+    same-length-6
+    returns-6
+    same-length-7
+    returns-7
+    same-length-8
+    returns-8
+    same-length-9
+    returns-9
+    same-length-10
+    returns-10
+    same-length-11
+    returns-11
+    same-length-12
+    returns-12
+    same-length-13
+    returns-13
+    same-length-14
+    returns-14
+    same-length-15
+    returns-15
+    same-length-16
+    returns-16
+    same-length-17
+    returns-17
+    same-length-18
+    returns-18
+    same-length-19
+    returns-19
+    same-length-20
+    returns-20
+    same-length-21
+    returns-21
+    same-length-22
+    returns-22
+    same-length-23
+    returns-23
+    same-length-24
+    returns-24
+    same-length-25
+    returns-25
+    same-length-26
+    returns-26
+    returns-27)

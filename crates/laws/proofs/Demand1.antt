@@ -1,0 +1,61 @@
+-- Demand 1: any image, state, core and limit gets one of the listed outcomes, and a refusal leaves all as it was.
+use Prim.Native.Nat.{ℕ, _+_, _/_, _≤_, _<_}
+use mathlib.Core.Path.{_≡_, refl, sym, ap, _∙_}
+use mathlib.Core.Bool.{Bool, true, false}
+use mathlib.Core.Option.{some}
+use native.Mathlib.Omega.{arith}
+use native.Mathlib.Decide.{decLt}
+use lib.ListN.{length}
+use Rattle.machine.specs.declared.Core.{Core}
+use Rattle.machine.specs.declared.Outcome.{Outcome}
+use Rattle.machine.specs.declared.Outcome.the-variants.{Limit, Break, Image, Start}
+use Rattle.machine.specs.Outcomes.{number}
+use Rattle.machine.specs.Run.{Place, steps, Ran, ended, goodLength, run}
+use Rattle.laws.specs.Ends.{Admitted, Ends, Ends.by-limit, Ends.by-break, Ends.by-refusal}
+use Rattle.laws.proofs.Turns.{run-image, run-start}
+use Rattle.laws.proofs.Demand2.{demand2}
+
+-- the outcome is one of the nine
+abbrev Listed : Ran → Type 0
+Listed r = (o : Outcome) × (r .outcome ≡ number o)
+
+-- state and memory are those to which the steps done lead, and nothing of a refused instruction is left
+abbrev Left : Core → Place → Ran → Type 0
+Left core p r = steps core (r .steps) p ≡ some (r .place)
+
+module _ (core : Core) (limit : ℕ) (p : Place) where
+  -- IMAGE and START hand back the given state, 0 steps and the image untouched
+  pub image-refused : goodLength (length (p .memory)) ≡ false → run core limit p ≡ ended Image 0 p
+  image-refused h = run-image core limit (p .memory) (p .state) h
+
+  pub start-refused : goodLength (length (p .memory)) ≡ true → length (p .memory) / 4 < p .state .sp .0 → run core limit p ≡ ended Start 0 p
+  start-refused h k = run-start core limit (p .memory) (p .state) h k
+
+  abbrev Kind : Ran → Type 0
+  Kind r = Listed r × (2 ≤ r .outcome → Left core p r)
+
+  entry : (o : Outcome) → Kind (ended o 0 p)
+  unfolding steps
+  entry o = ((o, refl), λ _. refl)
+
+  ends : (r : Ran) → Ends core limit p r → Kind r
+  ends r (by-limit s) = ((Limit, refl), λ h. absurd (omega arith))
+  ends r (by-break l s b) = ((Break, refl), λ h. absurd (omega arith))
+  ends r (by-refusal {o = o} l s b) = ((o, refl), λ _. s)
+
+  demand1 : Kind (run core limit p)
+  demand1 = by-image (goodLength (length (p .memory))) refl
+    where
+      by-image : (t : Bool) → goodLength (length (p .memory)) ≡ t → Kind (run core limit p)
+      by-image false h = rw (image-refused h) (entry Image)
+      by-image true h = by-start (decLt (length (p .memory) / 4) (p .state .sp .0))
+        where
+          by-start : Dec (length (p .memory) / 4 < p .state .sp .0) → Kind (run core limit p)
+          by-start (yes k) = rw (start-refused h k) (entry Start)
+          by-start (no k) = ends _ (demand2 core limit p (record { image = h; start = omega arith }))
+
+  pub one-of-the-listed : Listed (run core limit p)
+  one-of-the-listed = demand1 .0
+
+  pub refusal-leaves-all : 2 ≤ run core limit p .outcome → Left core p (run core limit p)
+  refusal-leaves-all = demand1 .1

@@ -1,0 +1,62 @@
+-- Demand 2: a run is the definition's steps in order, counted, to the first stop.
+use Prim.Native.Nat.{ℕ, zero, suc, _+_, _≤_, _<_}
+use mathlib.Core.Path.{_≡_, refl, sym, ap, _∙_, subst}
+use mathlib.Core.Bool.{true}
+use mathlib.Core.Option.{some}
+use native.Mathlib.Nat.{add-zero, zero-add}
+use native.Mathlib.Omega.{arith}
+use lib.ListN.{length}
+use Rattle.machine.specs.declared.Core.{Core}
+use Rattle.machine.specs.declared.State.{State}
+use Rattle.machine.specs.declared.Outcome.{Outcome}
+use Rattle.machine.specs.declared.Outcome.the-variants.{Limit, Break}
+use Rattle.machine.specs.Effects.{Effect, Effect.refuse, Effect.stop, Effect.go, Effect.write}
+use Rattle.machine.specs.Run.{Place, place, steps, Ran, ended, after, runFrom, run}
+use Rattle.laws.specs.Ends.{Admitted, Ends, Ends.by-limit, Ends.by-break, Ends.by-refusal}
+use Rattle.laws.proofs.Steps.{effectAt, steps-add, run-follows}
+use Rattle.laws.proofs.Turns.{run-goes}
+
+module _ (core : Core) (limit : ℕ) (p : Place) where
+  -- with n steps done and k left
+  walk : (k n : ℕ) (q : Place) → n + k ≡ limit → steps core n p ≡ some q → Ends core limit p (runFrom core k n q)
+  unfolding runFrom steps
+  walk zero n q e h =
+      let z : n ≡ limit = omega arith in rw z (by-limit (subst (λ (x : ℕ). steps core x p ≡ some q) z h))
+  walk (suc k) n q e h =
+      by-effect (effectAt core q) (λ r s. walk k (n + 1) r (omega arith) (steps-add core n 1 p q h ∙ s)) refl
+    where
+      by-effect : (x : Effect) → ((r : Place) → steps core 1 q ≡ some r → Ends core limit p (runFrom core k (n + 1) r))
+          → effectAt core q ≡ x → Ends core limit p (after x n q (runFrom core k))
+      by-effect (refuse o) f s = by-refusal {n = n} (omega arith) h s
+      by-effect (stop t) f s = by-break {n = n} (omega arith) h s
+      by-effect (go t) f s = f _ (rw s)
+      by-effect (write t a w v) f s = f _ (rw s)
+
+  module _ (a : Admitted p) where
+    admitted : run core limit p ≡ runFrom core limit 0 p
+    admitted = run-goes core limit (p .memory) (p .state) (a .image) (a .start)
+
+    pub demand2 : Ends core limit p (run core limit p)
+    unfolding steps
+    demand2 = rw admitted (walk limit 0 p (zero-add limit) refl)
+
+    -- after n steps done the run stands at q with n counted
+    pub counted : (n k : ℕ) (q : Place) → n + k ≡ limit → steps core n p ≡ some q → run core limit p ≡ runFrom core k n q
+    counted n k q e h = admitted ∙ rw (← e) (run-follows core n k 0 p q h ∙ ap (λ (c : ℕ). runFrom core k c q) (zero-add n))
+
+-- LIMIT before FETCH: with no step left nothing else is tested
+pub limit-first : (core : Core) (p : Place) → Admitted p → run core 0 p ≡ ended Limit 0 p
+unfolding runFrom
+limit-first core p a = admitted core 0 p a
+
+-- BREAK on the last allowed step is 1, counted, with its own state
+pub break-on-the-last : (core : Core) (n : ℕ) (p q : Place) (t : State) → Admitted p → steps core n p ≡ some q → effectAt core q ≡ stop t
+    → run core (n + 1) p ≡ ended Break (n + 1) (place (q .memory) t)
+unfolding runFrom
+break-on-the-last core n p q t a h s = counted core (n + 1) p a n 1 q refl h ∙ rw s
+
+-- a refused instruction counts no step
+pub refused-uncounted : (core : Core) (n k : ℕ) (p q : Place) (o : Outcome) → Admitted p → steps core n p ≡ some q → effectAt core q ≡ refuse o
+    → run core (n + suc k) p ≡ ended o n q
+unfolding runFrom
+refused-uncounted core n k p q o a h s = counted core (n + suc k) p a n (suc k) q refl h ∙ rw s

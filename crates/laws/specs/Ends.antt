@@ -1,0 +1,25 @@
+-- How a run may end: the place is where the steps done lead, and what ended it is what the definition says of that place.
+use Prim.Native.Nat.{ℕ, _+_, _/_, _<_, _≤_}
+use mathlib.Core.Path.{_≡_}
+use mathlib.Core.Bool.{true}
+use mathlib.Core.Option.{some}
+use lib.ListN.{length}
+use Rattle.machine.specs.declared.Core.{Core}
+use Rattle.machine.specs.declared.State.{State}
+use Rattle.machine.specs.declared.Outcome.{Outcome}
+use Rattle.machine.specs.declared.Outcome.the-variants.{Limit, Break}
+use Rattle.machine.specs.Effects.{Effect, Effect.refuse, Effect.stop}
+use Rattle.machine.specs.Table.{stepOf}
+use Rattle.machine.specs.Run.{Place, place, steps, Ran, ended, goodLength}
+
+-- what is tested once at entry: neither IMAGE nor START
+pub record Admitted (p : Place) : Type 0 where
+  pub image : goodLength (length (p .memory)) ≡ true
+  pub start : p .state .sp .0 ≤ length (p .memory) / 4
+
+pub data Ends (core : Core) (limit : ℕ) (p : Place) : Ran → Type 0 where
+  by-limit : {q : Place} → steps core limit p ≡ some q → Ends core limit p (ended Limit limit q)
+  by-break : {n : ℕ} {q : Place} {t : State} → n < limit → steps core n p ≡ some q
+      → stepOf core (q .memory) (q .state) ≡ stop t → Ends core limit p (ended Break (n + 1) (place (q .memory) t))
+  by-refusal : {n : ℕ} {q : Place} {o : Outcome} → n < limit → steps core n p ≡ some q
+      → stepOf core (q .memory) (q .state) ≡ refuse o → Ends core limit p (ended o n q)

@@ -1,0 +1,51 @@
+use Rattle.machine.specs.Instructions.{middle}
+use borrow.Author.Needs.{needs}
+use Rattle.step.proofs.middle.Statement.{statement}
+use Rattle.step.proofs.middle.Tie as tie
+use Rattle.step.proofs.middle.Reads as reads
+use Rattle.step.proofs.middle.Lts as lts
+use Rattle.core_instructions.proofs.emulate.Reads as emulate-reads
+use Rattle.dispatch.proofs.wide.Reads as wide-reads
+
+enum-told : tie.Need-enum-told
+enum-told c = search needs
+
+sub-emulate : tie.Need-sub-emulate
+sub-emulate c = search needs
+
+emulate-requires : tie.Need-emulate-requires
+emulate-requires c κs = search needs
+
+enum-told-2 : tie.Need-enum-told-2
+enum-told-2 c = search needs
+
+wide-requires : tie.Need-wide-requires
+wide-requires c κs = search needs
+
+same-length : tie.Need-same-length
+same-length c = search needs
+
+returns : tie.Need-returns
+unfolding middle
+returns c = rw (c .before .before .before .before .enum-told .given .1) ((cc), (cc))
+
+same-length-2 : tie.Need-same-length-2
+same-length-2 c = search needs
+
+returns-2 : tie.Need-returns-2
+unfolding middle
+returns-2 c = rw (c .before .before .before .before .enum-told2 .given .1) ((cc), (cc))
+
+pub middle-spec : {M : Type 1} → statement M
+middle-spec =
+    tie.close
+    (tie.spec
+    enum-told
+    sub-emulate
+    emulate-requires
+    enum-told-2
+    wide-requires
+    same-length
+    returns
+    same-length-2
+    returns-2)

@@ -1,0 +1,55 @@
+use Prim.Native.Nat.{_+_, _-_, _/_}
+use lib.ListN.{length}
+use mathlib.Core.Path.{refl}
+use native.Mathlib.Omega.{arith}
+use borrow.Author.Tests.{lt-ltb, le-ltb, le-leb, lt-leb, eq-eqb, ne-eqb}
+use Rattle.machine.specs.Table.{effectOf, row}
+use borrow.Author.Needs.{needs}
+use Rattle.wide_instructions.proofs.flow.callpcrel.Statement.{statement}
+use Rattle.wide_instructions.proofs.flow.callpcrel.Tie as tie
+use Rattle.wide_instructions.proofs.flow.callpcrel.Reads as reads
+use Rattle.wide_instructions.proofs.flow.callpcrel.Lts as lts
+use Rattle.machine.proofs.State.jump.Reads as jump-reads
+use Rattle.memory.proofs.read_word.Reads as read-word-reads
+use Rattle.memory.proofs.write_word.Reads as write-word-reads
+use Rattle.std.proofs.num.wrapping_add_u32.Reads as wrapping-add-u32-reads
+use Rattle.wide_instructions.proofs.flow.relative.Reads as relative-reads
+
+returns : tie.Need-returns
+unfolding effectOf row
+returns c = let a = c .before .before .args in simp (le-ltb (a .s .sp .0) (length (a .image .now) / 4) (omega arith)) (refl, refl)
+
+read-word-requires : tie.Need-read-word-requires
+read-word-requires c κs = search needs
+
+wrapping-add-u32-requires : tie.Need-wrapping-add-u32-requires
+wrapping-add-u32-requires c κs = search needs
+
+write-word-requires : tie.Need-write-word-requires
+write-word-requires c κs = search needs
+
+relative-requires : tie.Need-relative-requires
+relative-requires c κs = search needs
+
+jump-requires : tie.Need-jump-requires
+jump-requires c κs = search needs
+
+same-length : tie.Need-same-length
+same-length c = search needs
+
+returns-2 : tie.Need-returns-2
+unfolding effectOf row
+returns-2 c = let a = c .before .before .before .before .before .before .before .before .before .before .before .args in simp (lt-ltb (a .s .sp .0) (length (a .image .now) / 4) (omega arith)) ((cc), (cc))
+
+pub callpcrel-spec : {M : Type 1} → statement M
+callpcrel-spec =
+    tie.close
+    (tie.spec
+    returns
+    read-word-requires
+    wrapping-add-u32-requires
+    write-word-requires
+    relative-requires
+    jump-requires
+    same-length
+    returns-2)

@@ -1,0 +1,39 @@
+use Prim.Native.Nat.{_+_, _-_, _/_}
+use lib.ListN.{length}
+use mathlib.Core.Path.{refl}
+use native.Mathlib.Omega.{arith}
+use borrow.Author.Tests.{lt-ltb, le-ltb, le-leb, lt-leb, eq-eqb, ne-eqb}
+use Rattle.machine.specs.Table.{effectOf, row}
+use borrow.Author.Needs.{needs}
+use Rattle.wide_instructions.proofs.flow.poppcrel.Statement.{statement}
+use Rattle.wide_instructions.proofs.flow.poppcrel.Tie as tie
+use Rattle.wide_instructions.proofs.flow.poppcrel.Reads as reads
+use Rattle.wide_instructions.proofs.flow.poppcrel.Lts as lts
+use Rattle.machine.proofs.State.jump.Reads as jump-reads
+use Rattle.memory.proofs.read_word.Reads as read-word-reads
+use Rattle.wide_instructions.proofs.flow.relative.Reads as relative-reads
+
+returns : tie.Need-returns
+unfolding effectOf row
+returns c = let a = c .before .before .args in simp (le-ltb (a .s .sp .0) (length (a .image .now) / 4) (omega arith)) (refl, refl)
+
+read-word-requires : tie.Need-read-word-requires
+read-word-requires c κs = search needs
+
+relative-requires : tie.Need-relative-requires
+relative-requires c κs = search needs
+
+add-t5 : tie.Need-add-t5
+add-t5 c = search needs
+
+jump-requires : tie.Need-jump-requires
+jump-requires c κs = search needs
+
+returns-2 : tie.Need-returns-2
+unfolding effectOf row
+returns-2 c = let a = c .before .before .before .before .before .args in simp (lt-ltb (a .s .sp .0) (length (a .image .now) / 4) (omega arith)) ((cc), refl)
+
+pub poppcrel-spec : {M : Type 1} → statement M
+poppcrel-spec =
+    tie.close
+    (tie.spec returns read-word-requires relative-requires add-t5 jump-requires returns-2)

@@ -1,0 +1,50 @@
+use Prim.Native.Nat.{_+_, _-_, _/_}
+use lib.ListN.{length}
+use mathlib.Core.Path.{refl}
+use native.Mathlib.Omega.{arith}
+use borrow.Author.Tests.{lt-ltb, le-ltb, le-leb, lt-leb, eq-eqb, ne-eqb}
+use Rattle.machine.specs.Table.{effectOf, row}
+use borrow.Author.Needs.{needs}
+use Rattle.wide_instructions.proofs.pushes.pushspadd.Statement.{statement}
+use Rattle.wide_instructions.proofs.pushes.pushspadd.Tie as tie
+use Rattle.wide_instructions.proofs.pushes.pushspadd.Reads as reads
+use Rattle.wide_instructions.proofs.pushes.pushspadd.Lts as lts
+use Rattle.machine.proofs.State.next.Reads as next-reads
+use Rattle.memory.proofs.read_word.Reads as read-word-reads
+use Rattle.memory.proofs.write_word.Reads as write-word-reads
+use Rattle.wide_instructions.proofs.pushes.four_times.Reads as four-times-reads
+
+returns : tie.Need-returns
+unfolding effectOf row
+returns c = let a = c .before .before .args in simp (le-ltb (a .s .sp .0) (length (a .image .now) / 4) (omega arith)) (refl, refl)
+
+read-word-requires : tie.Need-read-word-requires
+read-word-requires c κs = search needs
+
+four-times-requires : tie.Need-four-times-requires
+four-times-requires c κs = search needs
+
+write-word-requires : tie.Need-write-word-requires
+write-word-requires c κs = search needs
+
+next-requires : tie.Need-next-requires
+next-requires c κs = search needs
+
+same-length : tie.Need-same-length
+same-length c = search needs
+
+returns-2 : tie.Need-returns-2
+unfolding effectOf row
+returns-2 c = let a = c .before .before .before .before .before .before .before .before .before .before .args in simp (lt-ltb (a .s .sp .0) (length (a .image .now) / 4) (omega arith)) ((cc), (cc))
+
+pub pushspadd-spec : {M : Type 1} → statement M
+pushspadd-spec =
+    tie.close
+    (tie.spec
+    returns
+    read-word-requires
+    four-times-requires
+    write-word-requires
+    next-requires
+    same-length
+    returns-2)

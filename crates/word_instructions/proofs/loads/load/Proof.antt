@@ -1,0 +1,64 @@
+use Rattle.memory.specs.Memory.{word}
+use Prim.Native.Nat.{_+_, _-_, _/_}
+use lib.ListN.{length}
+use mathlib.Core.Path.{refl}
+use native.Mathlib.Omega.{arith}
+use borrow.Author.Tests.{lt-ltb, le-ltb, le-leb, lt-leb, eq-eqb, ne-eqb}
+use Rattle.machine.specs.Table.{effectOf, row}
+use borrow.Author.Needs.{needs}
+use Rattle.word_instructions.proofs.loads.load.Statement.{statement}
+use Rattle.word_instructions.proofs.loads.load.Tie as tie
+use Rattle.word_instructions.proofs.loads.load.Reads as reads
+use Rattle.word_instructions.proofs.loads.load.Lts as lts
+use Rattle.word_instructions.proofs.loads.read.Reads as read-reads
+use Rattle.machine.proofs.State.next.Reads as next-reads
+use Rattle.memory.proofs.read_word.Reads as read-word-reads
+use Rattle.memory.proofs.write_word.Reads as write-word-reads
+
+returns : tie.Need-returns
+unfolding effectOf row
+returns c = let a = c .before .before .args in simp (le-ltb (a .s .sp .0) (length (a .image .now) / 4) (omega arith)) (refl, refl)
+
+read-word-requires : tie.Need-read-word-requires
+read-word-requires c κs = search needs
+
+cast-if2 : tie.Need-cast-if2
+cast-if2 c = search needs
+
+same-length : tie.Need-same-length
+same-length c = search needs
+
+returns-2 : tie.Need-returns-2
+unfolding effectOf row
+returns-2 c = let a = c .before .before .before .before .before .args in simp (lt-ltb (a .s .sp .0) (length (a .image .now) / 4) (omega arith), le-ltb (word (a .image .now) (a .s .sp .0)) (length (a .image .now)) (omega arith)) (refl, refl)
+
+read-requires : tie.Need-read-requires
+read-requires c κs = search needs
+
+write-word-requires : tie.Need-write-word-requires
+write-word-requires c κs = search needs
+
+next-requires : tie.Need-next-requires
+next-requires c κs = search needs
+
+same-length-2 : tie.Need-same-length-2
+same-length-2 c = search needs
+
+returns-3 : tie.Need-returns-3
+unfolding effectOf row
+returns-3 c = let a = c .before .before .before .before .before .before .before .before .before .before .before .before .args in simp (lt-ltb (a .s .sp .0) (length (a .image .now) / 4) (omega arith), lt-ltb (word (a .image .now) (a .s .sp .0)) (length (a .image .now)) (omega arith)) ((cc), (cc))
+
+pub load-spec : {M : Type 1} → statement M
+load-spec =
+    tie.close
+    (tie.spec
+    returns
+    read-word-requires
+    cast-if2
+    same-length
+    returns-2
+    read-requires
+    write-word-requires
+    next-requires
+    same-length-2
+    returns-3)

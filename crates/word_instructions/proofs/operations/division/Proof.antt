@@ -1,0 +1,69 @@
+use Rattle.memory.specs.Memory.{word}
+use Rattle.machine.proofs.Offsets.{offset-past}
+use Prim.Native.Nat.{_+_, _-_, _/_}
+use lib.ListN.{length}
+use mathlib.Core.Path.{refl}
+use native.Mathlib.Omega.{arith}
+use borrow.Author.Tests.{lt-ltb, le-ltb, le-leb, lt-leb, eq-eqb, ne-eqb}
+use Rattle.machine.specs.Table.{effectOf, row}
+use borrow.Author.Needs.{needs}
+use Rattle.word_instructions.proofs.operations.division.Statement.{statement}
+use Rattle.word_instructions.proofs.operations.division.Tie as tie
+use Rattle.word_instructions.proofs.operations.division.Reads as reads
+use Rattle.word_instructions.proofs.operations.division.Lts as lts
+use Rattle.arithmetic.proofs.division.Reads as division-reads
+use Rattle.machine.proofs.State.next.Reads as next-reads
+use Rattle.memory.proofs.read_word.Reads as read-word-reads
+use Rattle.memory.proofs.write_word.Reads as write-word-reads
+
+add-second : tie.Need-add-second
+add-second c = search needs
+
+returns : tie.Need-returns
+unfolding effectOf row
+returns c = let a = c .before .before .before .args in rw (offset-past (a .image .now) (a .s) 1 _ (omega arith)) (refl, refl)
+
+read-word-requires : tie.Need-read-word-requires
+read-word-requires c κs = search needs
+
+same-length : tie.Need-same-length
+same-length c = search needs
+
+returns-2 : tie.Need-returns-2
+unfolding effectOf row
+returns-2 c = let a = c .before .before .before .before .before .before .args in simp (lt-ltb (a .s .sp .0) (length (a .image .now) / 4) (omega arith), lt-ltb (a .s .sp .0 + 1) (length (a .image .now) / 4) (omega arith), le-ltb 0 (word (a .image .now) (a .s .sp .0)) (omega arith)) (refl, refl)
+
+read-word-requires-2 : tie.Need-read-word-requires-2
+read-word-requires-2 c κs = search needs
+
+division-requires : tie.Need-division-requires
+division-requires c κs = search needs
+
+write-word-requires : tie.Need-write-word-requires
+write-word-requires c κs = search needs
+
+next-requires : tie.Need-next-requires
+next-requires c κs = search needs
+
+same-length-2 : tie.Need-same-length-2
+same-length-2 c = search needs
+
+returns-3 : tie.Need-returns-3
+unfolding effectOf row
+returns-3 c = let a = c .before .before .before .before .before .before .before .before .before .before .before .before .before .before .args in simp (lt-ltb (a .s .sp .0) (length (a .image .now) / 4) (omega arith), lt-ltb (a .s .sp .0 + 1) (length (a .image .now) / 4) (omega arith), lt-ltb 0 (word (a .image .now) (a .s .sp .0)) (omega arith)) ((cc), (cc))
+
+pub division-spec : {M : Type 1} → statement M
+division-spec =
+    tie.close
+    (tie.spec
+    add-second
+    returns
+    read-word-requires
+    same-length
+    returns-2
+    read-word-requires-2
+    division-requires
+    write-word-requires
+    next-requires
+    same-length-2
+    returns-3)

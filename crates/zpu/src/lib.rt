@@ -1,0 +1,97 @@
+// The public face: a step and a run of either core, on any image, state and limit.
+use machine::Answer;
+use machine::Core;
+use machine::Finish;
+use machine::Outcome;
+use machine::State;
+ghost use mathlib.Core.Path.{_≡_};
+ghost use Prim.Native.Nat.{ℕ, _+_, _^_, _<_};
+ghost use lib.ListN.{length};
+ghost use Rattle.machine.specs.Inner.{Ready, finishOf};
+ghost use Rattle.machine.specs.Run.{place, goodLength, runFrom, run, told};
+
+fn good_length(length: usize) -> bool
+    ensures { λ r. ⌜ r ≡ goodLength length ⌝ }
+{
+    if length == 0 {
+        return false;
+    }
+    if 65536 < length {
+        return false;
+    }
+    length % 4 == 0
+}
+
+// How a run ends by an answer that is no step done, n steps before it.
+fn ended_by(answer: Answer, n: u32) -> Finish
+    requires { ⌜ n + 1 < 2 ^ 32 ⌝ }
+    ensures { λ r. ⌜ r ≡ finishOf answer n ⌝ }
+{
+    match answer {
+        Answer::Done(t) => Finish {
+            outcome: Outcome::Limit,
+            steps: n,
+            state: t,
+        },
+        Answer::Broke(t) => Finish {
+            outcome: Outcome::Break,
+            steps: n + 1,
+            state: t,
+        },
+        Answer::Refused(t, o) => Finish {
+            outcome: o,
+            steps: n,
+            state: t,
+        },
+    }
+}
+
+// The steps in order, counted, to the first stop.
+fn steps(core: Core, image: &mut [u8], start: State, limit: u32) -> Finish
+    requires { ⌜ Ready (now image) start ⌝ }
+    ensures { λ r. ⌜ told r (now (image .exit)) ≡ runFrom core limit 0 (place (now (image .entry)) start) ⌝ }
+{
+    let mut s = start;
+    let mut n: u32 = 0;
+    while n < limit {
+        let answer = step::step(core, image, s);
+        let Answer::Done(next) = answer else {
+            return ended_by(answer, n);
+        };
+        s = next;
+        n += 1;
+    }
+    Finish {
+        outcome: Outcome::Limit,
+        steps: n,
+        state: s,
+    }
+}
+
+pub fn run(core: Core, image: &mut [u8], start: State, limit: u32) -> Finish
+    ensures { λ r. ⌜ told r (now (image .exit)) ≡ run core limit (place (now (image .entry)) start) ⌝ }
+{
+    let length = image.len();
+    if good_length(length) {
+        let sp = start.sp.0;
+        if length / 4 < sp {
+            return Finish {
+                outcome: Outcome::Start,
+                steps: 0,
+                state: start,
+            };
+        }
+        return steps(core, image, start, limit);
+    }
+    Finish {
+        outcome: Outcome::Image,
+        steps: 0,
+        state: start,
+    }
+}
+
+pub fn step(core: Core, image: &mut [u8], start: State) -> Finish
+    ensures { λ r. ⌜ told r (now (image .exit)) ≡ run core 1 (place (now (image .entry)) start) ⌝ }
+{
+    run(core, image, start, 1)
+}
