@@ -1,6 +1,6 @@
 -- IM in one shape for both of its cases: what is written is the word before `end`, and the high bits are that word or the sign.
 use Prim.Native.Nat.{ℕ, _+_, _-_, _*_, _/_, _^_, _<_, _≤_}
-use mathlib.Core.Path.{_≡_, refl}
+use mathlib.Core.Path.{_≡_}
 use mathlib.Core.List.{List}
 use mathlib.Core.Bool.{Bool, true, false, cond}
 use native.Mathlib.Omega.{arith}
@@ -14,7 +14,7 @@ use Rattle.machine.specs.declared.Outcome.the-variants.{Stack}
 use Rattle.machine.specs.State.{mark}
 use Rattle.machine.specs.Effects.{Effect, Effect.refuse, Effect.write}
 use Rattle.machine.specs.Instructions.{Instr.IM}
-use Rattle.machine.specs.Table.{extended, row, effectOf}
+use Rattle.machine.specs.Table.{row, effectOf}
 
 sign-joined : (v : ℕ) (t : Bool) → v < 128 → wrap (cond t 0 (2 ^ 32 - 1) * 128 + v) ≡ cond t v (2 ^ 32 - 128 + v)
 sign-joined v true h = omega arith

@@ -7,7 +7,6 @@ pub use immediate::im;
 pub use offsets::addsp;
 pub use offsets::loadsp;
 pub use offsets::storesp;
-pub use stack::below;
 pub use stack::emulate;
 pub use stack::poppc;
 pub use stack::popsp;

@@ -1,6 +1,4 @@
 // STORESP, LOADSP and ADDSP: word sp + n.
-use super::stack::below;
-use super::stack::push;
 use machine::Answer;
 use machine::Outcome;
 use machine::State;
@@ -28,13 +26,18 @@ pub fn loadsp(image: &mut [u8], s: State, n: u8) -> Answer
     requires { ⌜ Ready (now image) s ⌝ }
     ensures { λ r. ⌜ Carried (now (image .entry)) s (effectOf (now (image .entry)) s (LOADSP n)) r (now (image .exit)) ⌝ }
 {
-    let t = s.next(below(s.sp));
-    let from = s.sp.0 + n as usize;
+    let sp = s.sp.0;
+    if sp == 0 {
+        return Answer::Refused(s, Outcome::Stack);
+    }
+    let to = sp - 1;
+    let from = sp + n as usize;
     if image.len() / 4 <= from {
         return Answer::Refused(s, Outcome::Stack);
     }
     let v = memory::read_word(image, WordIndex(from));
-    push(image, s, t, v)
+    memory::write_word(image, WordIndex(to), v);
+    Answer::Done(s.next(WordIndex(to)))
 }
 
 pub fn addsp(image: &mut [u8], s: State, n: u8) -> Answer

@@ -5,40 +5,30 @@ use machine::State;
 use memory::ByteAddr;
 use memory::WordIndex;
 ghost use mathlib.Core.Path.{_≡_};
-ghost use Prim.Native.Nat.{ℕ, _-_, _*_, _<_};
+ghost use Prim.Native.Nat.{ℕ, _-_, _<_};
+ghost use Rattle.machine.specs.State.{jump};
 ghost use Rattle.machine.specs.Table.{push, effectOf};
 ghost use Rattle.machine.specs.Instructions.{Instr.PUSHSP, Instr.POPSP, Instr.POPPC, Instr.EMULATE};
 ghost use Rattle.machine.specs.Inner.{Ready, Carried};
 
-// Word sp - 1 becomes v, and the machine stands at t.
-pub fn push(image: &mut [u8], s: State, t: State, v: u32) -> Answer
+// Word sp - 1 becomes v, and the counter becomes `to`.
+pub fn push(image: &mut [u8], s: State, to: ByteAddr, v: u32) -> Answer
     requires { ⌜ Ready (now image) s ⌝ }
-    ensures { λ r. ⌜ Carried (now (image .entry)) s (push (now (image .entry)) s t v) r (now (image .exit)) ⌝ }
+    ensures { λ r. ⌜ Carried (now (image .entry)) s (push (now (image .entry)) s (jump s (to .0) (s .sp .0 - 1)) v) r (now (image .exit)) ⌝ }
 {
     let sp = s.sp.0;
     if sp == 0 {
         return Answer::Refused(s, Outcome::Stack);
     }
     memory::write_word(image, WordIndex(sp - 1), v);
-    Answer::Done(t)
-}
-
-// The place of the word that a push writes; where there is none, push refuses.
-pub fn below(sp: WordIndex) -> WordIndex
-    ensures { λ r. ⌜ r .0 ≡ sp .0 - 1 ⌝ }
-{
-    let at = sp.0;
-    if at == 0 {
-        return WordIndex(0);
-    }
-    WordIndex(at - 1)
+    Answer::Done(s.jump(to, WordIndex(sp - 1)))
 }
 
 pub fn pushsp(image: &mut [u8], s: State) -> Answer
     requires { ⌜ Ready (now image) s ⌝ }
     ensures { λ r. ⌜ Carried (now (image .entry)) s (effectOf (now (image .entry)) s PUSHSP) r (now (image .exit)) ⌝ }
 {
-    push(image, s, s.next(below(s.sp)), s.sp.byte().0)
+    push(image, s, s.following(), s.sp.byte().0)
 }
 
 pub fn popsp(image: &[u8], s: State) -> Answer
@@ -75,6 +65,5 @@ pub fn emulate(image: &mut [u8], s: State, k: u8) -> Answer
     requires { ⌜ k < 32 ⌝ }
     ensures { λ r. ⌜ Carried (now (image .entry)) s (effectOf (now (image .entry)) s (EMULATE k)) r (now (image .exit)) ⌝ }
 {
-    let t = s.jump(ByteAddr(32 * (k as u32)), below(s.sp));
-    push(image, s, t, std::num::wrapping_add_u32(s.pc.0, 1))
+    push(image, s, ByteAddr(32 * (k as u32)), s.following().0)
 }

@@ -1,5 +1,5 @@
 -- The marked numbers of document 01 that are about the machine, as one list with one proof: what the definitions give, and what the paper says.
-use Prim.Native.Nat.{ℕ, _+_, _-_, _*_}
+use Prim.Native.Nat.{ℕ, _-_}
 use mathlib.Core.Path.{_≡_, refl}
 use mathlib.Core.Bool.{Bool, true, false, _&&_}
 use mathlib.Core.List.{List, [], _∷_, _++_}
@@ -11,7 +11,7 @@ use Rattle.machine.specs.declared.Core.{Core}
 use Rattle.machine.specs.declared.Core.the-variants.{Narrow, Wide}
 use Rattle.machine.specs.Instructions.{first, middle, decode}
 use Rattle.machine.specs.Table.{row, effectOf, stepOf}
-use Rattle.machine.specs.Run.{Place, place, Ran, runFrom, goodLength, run}
+use Rattle.machine.specs.Run.{place, Ran, runFrom, goodLength, run}
 
 -- 2,560 bytes with code at 2100 and words at 2400, which is word 600
 abbrev image : List ℕ → List ℕ → List ℕ

@@ -1,6 +1,6 @@
 -- Demand 1: any image, state, core and limit gets one of the listed outcomes, and a refusal leaves all as it was.
-use Prim.Native.Nat.{ℕ, _+_, _/_, _≤_, _<_}
-use mathlib.Core.Path.{_≡_, refl, sym, ap, _∙_}
+use Prim.Native.Nat.{ℕ, _/_, _≤_, _<_}
+use mathlib.Core.Path.{_≡_, refl}
 use mathlib.Core.Bool.{Bool, true, false}
 use mathlib.Core.Option.{some}
 use native.Mathlib.Omega.{arith}
@@ -11,7 +11,7 @@ use Rattle.machine.specs.declared.Outcome.{Outcome}
 use Rattle.machine.specs.declared.Outcome.the-variants.{Limit, Break, Image, Start}
 use Rattle.machine.specs.Outcomes.{number}
 use Rattle.machine.specs.Run.{Place, steps, Ran, ended, goodLength, run}
-use Rattle.laws.specs.Ends.{Admitted, Ends, Ends.by-limit, Ends.by-break, Ends.by-refusal}
+use Rattle.laws.specs.Ends.{Ends, Ends.by-limit, Ends.by-break, Ends.by-refusal}
 use Rattle.laws.proofs.Turns.{run-image, run-start}
 use Rattle.laws.proofs.Demand2.{demand2}
 

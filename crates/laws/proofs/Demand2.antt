@@ -1,17 +1,15 @@
 -- Demand 2: a run is the definition's steps in order, counted, to the first stop.
-use Prim.Native.Nat.{ℕ, zero, suc, _+_, _≤_, _<_}
-use mathlib.Core.Path.{_≡_, refl, sym, ap, _∙_, subst}
-use mathlib.Core.Bool.{true}
+use Prim.Native.Nat.{ℕ, zero, suc, _+_}
+use mathlib.Core.Path.{_≡_, refl, ap, _∙_, subst}
 use mathlib.Core.Option.{some}
-use native.Mathlib.Nat.{add-zero, zero-add}
+use native.Mathlib.Nat.{zero-add}
 use native.Mathlib.Omega.{arith}
-use lib.ListN.{length}
 use Rattle.machine.specs.declared.Core.{Core}
 use Rattle.machine.specs.declared.State.{State}
 use Rattle.machine.specs.declared.Outcome.{Outcome}
 use Rattle.machine.specs.declared.Outcome.the-variants.{Limit, Break}
 use Rattle.machine.specs.Effects.{Effect, Effect.refuse, Effect.stop, Effect.go, Effect.write}
-use Rattle.machine.specs.Run.{Place, place, steps, Ran, ended, after, runFrom, run}
+use Rattle.machine.specs.Run.{Place, place, steps, ended, after, runFrom, run}
 use Rattle.laws.specs.Ends.{Admitted, Ends, Ends.by-limit, Ends.by-break, Ends.by-refusal}
 use Rattle.laws.proofs.Steps.{effectAt, steps-add, run-follows}
 use Rattle.laws.proofs.Turns.{run-goes}

@@ -4,4 +4,6 @@ pub mod Steps
 pub mod Demand1
 pub mod Demand2
 pub mod Unique
+pub mod Bounds
 pub mod Cases
+pub mod Instances

@@ -3,12 +3,11 @@ use Prim.Native.Nat.{ℕ}
 use mathlib.Core.Path.{_≡_, refl, sym, ap, _∙_}
 use mathlib.Core.List.{List, [], _∷_}
 use lib.ListN.{getD}
-use Rattle.machine.specs.declared.State.{State}
 use Rattle.machine.specs.declared.Finish.{Finish}
 use Rattle.machine.specs.declared.Outcome.{Outcome}
 use Rattle.machine.specs.declared.Outcome.the-variants.{Limit, Break, Image, Start, Fetch, Illegal, Stack, Address, Divide}
 use Rattle.machine.specs.Outcomes.{number}
-use Rattle.machine.specs.Run.{Place, Ran, told}
+use Rattle.machine.specs.Run.{Ran, told}
 
 abbrev listed : List Outcome
 listed = Limit ∷ Break ∷ Image ∷ Start ∷ Fetch ∷ Illegal ∷ Stack ∷ Address ∷ Divide ∷ []

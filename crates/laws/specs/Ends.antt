@@ -8,7 +8,7 @@ use Rattle.machine.specs.declared.Core.{Core}
 use Rattle.machine.specs.declared.State.{State}
 use Rattle.machine.specs.declared.Outcome.{Outcome}
 use Rattle.machine.specs.declared.Outcome.the-variants.{Limit, Break}
-use Rattle.machine.specs.Effects.{Effect, Effect.refuse, Effect.stop}
+use Rattle.machine.specs.Effects.{Effect.refuse, Effect.stop}
 use Rattle.machine.specs.Table.{stepOf}
 use Rattle.machine.specs.Run.{Place, place, steps, Ran, ended, goodLength}
 

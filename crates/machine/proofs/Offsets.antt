@@ -12,7 +12,7 @@ use Rattle.machine.specs.declared.Outcome.the-variants.{Stack}
 use Rattle.machine.specs.Effects.{Effect, Effect.refuse}
 use Rattle.machine.specs.Table.{sp, reading}
 
-either-way : (t : Bool) (e : Effect) → cond t e e ≡ e
+pub either-way : (t : Bool) (e : Effect) → cond t e e ≡ e
 either-way true e = refl
 either-way false e = refl
 

@@ -2,6 +2,8 @@
 use memory::ByteAddr;
 use memory::WordIndex;
 ghost use mathlib.Core.Path.{_≡_};
+ghost use Prim.Native.Nat.{ℕ, _+_};
+ghost use Rattle.arithmetic.specs.Words.{wrap};
 ghost use Rattle.machine.specs.State.{next, jump, mark};
 
 pub enum Core {
@@ -35,11 +37,18 @@ pub struct State {
 }
 
 impl State {
+    // The address of the byte after the instruction.
+    pub fn following(self) -> ByteAddr
+        ensures { λ r. ⌜ r ≡ record { 0 = wrap (self .pc .0 + 1) } ⌝ }
+    {
+        ByteAddr(std::num::wrapping_add_u32(self.pc.0, 1))
+    }
+
     pub fn next(self, sp: WordIndex) -> State
         ensures { λ r. ⌜ r ≡ next self (sp .0) ⌝ }
     {
         State {
-            pc: ByteAddr(std::num::wrapping_add_u32(self.pc.0, 1)),
+            pc: self.following(),
             sp,
             flag: false,
         }
@@ -49,7 +58,7 @@ impl State {
         ensures { λ r. ⌜ r ≡ mark self (sp .0) ⌝ }
     {
         State {
-            pc: ByteAddr(std::num::wrapping_add_u32(self.pc.0, 1)),
+            pc: self.following(),
             sp,
             flag: true,
         }

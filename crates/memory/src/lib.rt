@@ -20,12 +20,20 @@ impl ByteAddr {
 }
 
 impl WordIndex {
+    // Where in the image the word starts: the one place of the factor of four.
+    fn place(self) -> usize
+        requires { ⌜ self .0 ≤ 16384 ⌝ }
+        ensures { λ r. ⌜ r ≡ 4 * self .0 ⌝ }
+    {
+        4 * self.0
+    }
+
     // The word's first byte.
     pub fn byte(self) -> ByteAddr
         requires { ⌜ self .0 ≤ 16384 ⌝ }
         ensures { λ r. ⌜ r .0 ≡ 4 * self .0 ⌝ }
     {
-        ByteAddr((4 * self.0) as u32)
+        ByteAddr(self.place() as u32)
     }
 }
 
@@ -69,7 +77,7 @@ pub fn read_word(image: &[u8], w: WordIndex) -> u32
     requires { ⌜ (w .0 < length (now image) / 4) × (length (now image) ≤ 65536) ⌝ }
     ensures { λ r. ⌜ r ≡ word (now (image .entry)) (w .0) ⌝ }
 {
-    let at = w.byte().0 as usize;
+    let at = w.place();
     four(image[at], image[at + 1], image[at + 2], image[at + 3])
 }
 
@@ -100,7 +108,7 @@ pub fn write_word(image: &mut [u8], w: WordIndex, v: u32)
     requires { ⌜ (w .0 < length (now image) / 4) × (length (now image) ≤ 65536) ⌝ }
     ensures { λ _. ⌜ now (image .exit) ≡ setBytes (now (image .entry)) (4 * w .0) 4 v ⌝ }
 {
-    let at = w.byte().0 as usize;
+    let at = w.place();
     set_byte(image, at, (v / 256 / 256 / 256 % 256) as u8);
     set_byte(image, at + 1, (v / 256 / 256 % 256) as u8);
     set_byte(image, at + 2, (v / 256 % 256) as u8);

@@ -27,7 +27,7 @@ pub fn call(image: &mut [u8], s: State) -> Answer
         return Answer::Refused(s, Outcome::Stack);
     }
     let a = memory::read_word(image, s.sp);
-    memory::write_word(image, s.sp, std::num::wrapping_add_u32(s.pc.0, 1));
+    memory::write_word(image, s.sp, s.following().0);
     Answer::Done(s.jump(ByteAddr(a), s.sp))
 }
 
@@ -40,7 +40,7 @@ pub fn callpcrel(image: &mut [u8], s: State) -> Answer
         return Answer::Refused(s, Outcome::Stack);
     }
     let a = memory::read_word(image, s.sp);
-    memory::write_word(image, s.sp, std::num::wrapping_add_u32(s.pc.0, 1));
+    memory::write_word(image, s.sp, s.following().0);
     Answer::Done(s.jump(relative(s, a), s.sp))
 }
 

@@ -14,7 +14,7 @@ pub fn pushpc(image: &mut [u8], s: State) -> Answer
     requires { ⌜ Ready (now image) s ⌝ }
     ensures { λ r. ⌜ Carried (now (image .entry)) s (effectOf (now (image .entry)) s PUSHPC) r (now (image .exit)) ⌝ }
 {
-    core_instructions::push(image, s, s.next(core_instructions::below(s.sp)), s.pc.0)
+    core_instructions::push(image, s, s.following(), s.pc.0)
 }
 
 // Four times the sum of a word index and a word.

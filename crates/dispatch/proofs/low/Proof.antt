@@ -7,16 +7,6 @@ use Rattle.machine.specs.Table.{effectOf, row}
 use borrow.Author.Needs.{needs}
 use Rattle.dispatch.proofs.low.Statement.{statement}
 use Rattle.dispatch.proofs.low.Tie as tie
-use Rattle.dispatch.proofs.low.Reads as reads
-use Rattle.dispatch.proofs.low.Lts as lts
-use Rattle.core_instructions.proofs.poppc.Reads as poppc-reads
-use Rattle.core_instructions.proofs.popsp.Reads as popsp-reads
-use Rattle.core_instructions.proofs.pushsp.Reads as pushsp-reads
-use Rattle.word_instructions.proofs.binary.Reads as binary-reads
-use Rattle.word_instructions.proofs.load.Reads as load-reads
-use Rattle.word_instructions.proofs.store.Reads as store-reads
-use Rattle.word_instructions.proofs.unary.Reads as unary-reads
-use Rattle.machine.proofs.State.next.Reads as next-reads
 
 next-requires : tie.Need-next-requires
 next-requires c κs = search needs

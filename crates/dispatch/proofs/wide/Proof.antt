@@ -7,20 +7,6 @@ use Rattle.machine.specs.Table.{effectOf, row}
 use borrow.Author.Needs.{needs}
 use Rattle.dispatch.proofs.wide.Statement.{statement}
 use Rattle.dispatch.proofs.wide.Tie as tie
-use Rattle.dispatch.proofs.wide.Reads as reads
-use Rattle.dispatch.proofs.wide.Lts as lts
-use Rattle.word_instructions.proofs.binary.Reads as binary-reads
-use Rattle.word_instructions.proofs.load.Reads as load-reads
-use Rattle.word_instructions.proofs.store.Reads as store-reads
-use Rattle.word_instructions.proofs.unary.Reads as unary-reads
-use Rattle.wide_instructions.proofs.call.Reads as call-reads
-use Rattle.wide_instructions.proofs.callpcrel.Reads as callpcrel-reads
-use Rattle.wide_instructions.proofs.eqbranch.Reads as eqbranch-reads
-use Rattle.wide_instructions.proofs.neqbranch.Reads as neqbranch-reads
-use Rattle.wide_instructions.proofs.poppcrel.Reads as poppcrel-reads
-use Rattle.word_instructions.proofs.division.Reads as division-reads
-use Rattle.wide_instructions.proofs.pushpc.Reads as pushpc-reads
-use Rattle.wide_instructions.proofs.pushspadd.Reads as pushspadd-reads
 
 load-requires : tie.Need-load-requires
 load-requires c κs = search needs

@@ -4,14 +4,6 @@ use Rattle.machine.specs.Instructions.{decode}
 use borrow.Author.Needs.{needs}
 use Rattle.step.proofs.carry_out.Statement.{statement}
 use Rattle.step.proofs.carry_out.Tie as tie
-use Rattle.step.proofs.carry_out.Reads as reads
-use Rattle.step.proofs.carry_out.Lts as lts
-use Rattle.core_instructions.proofs.im.Reads as im-reads
-use Rattle.core_instructions.proofs.loadsp.Reads as loadsp-reads
-use Rattle.core_instructions.proofs.storesp.Reads as storesp-reads
-use Rattle.step.proofs.first.Reads as first-reads
-use Rattle.step.proofs.middle.Reads as middle-reads
-use Rattle.step.proofs.offset.Reads as offset-reads
 
 first-requires : tie.Need-first-requires
 first-requires c κs = search needs

@@ -4,10 +4,6 @@ use Rattle.machine.specs.Instructions.{first}
 use borrow.Author.Needs.{needs}
 use Rattle.step.proofs.first.Statement.{statement}
 use Rattle.step.proofs.first.Tie as tie
-use Rattle.step.proofs.first.Reads as reads
-use Rattle.step.proofs.first.Lts as lts
-use Rattle.core_instructions.proofs.addsp.Reads as addsp-reads
-use Rattle.dispatch.proofs.low.Reads as low-reads
 
 low-requires : tie.Need-low-requires
 low-requires c κs = search needs

@@ -2,10 +2,6 @@ use Rattle.machine.specs.Instructions.{middle}
 use borrow.Author.Needs.{needs}
 use Rattle.step.proofs.middle.Statement.{statement}
 use Rattle.step.proofs.middle.Tie as tie
-use Rattle.step.proofs.middle.Reads as reads
-use Rattle.step.proofs.middle.Lts as lts
-use Rattle.core_instructions.proofs.emulate.Reads as emulate-reads
-use Rattle.dispatch.proofs.wide.Reads as wide-reads
 
 enum-told : tie.Need-enum-told
 enum-told c = search needs

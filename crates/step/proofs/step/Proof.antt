@@ -6,9 +6,6 @@ use Rattle.machine.specs.Table.{stepOf}
 use borrow.Author.Needs.{needs}
 use Rattle.step.proofs.step.Statement.{statement}
 use Rattle.step.proofs.step.Tie as tie
-use Rattle.step.proofs.step.Reads as reads
-use Rattle.step.proofs.step.Lts as lts
-use Rattle.step.proofs.carry_out.Reads as carry-out-reads
 
 cast-pc : tie.Need-cast-pc
 cast-pc c = search needs

@@ -1,8 +1,6 @@
 use borrow.Author.Needs.{needs}
 use Rattle.zpu.proofs.ended_by.Statement.{statement}
 use Rattle.zpu.proofs.ended_by.Tie as tie
-use Rattle.zpu.proofs.ended_by.Reads as reads
-use Rattle.zpu.proofs.ended_by.Lts as lts
 
 enum-known-answer : tie.Need-enum-known-answer
 enum-known-answer c = search needs

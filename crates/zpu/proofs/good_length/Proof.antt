@@ -1,10 +1,8 @@
 use Rattle.machine.specs.Run.{goodLength}
-use borrow.Author.Tests.{lt-ltb, le-ltb, le-leb, lt-leb, eq-eqb, ne-eqb}
+use borrow.Author.Tests.{lt-ltb, le-ltb, le-leb, lt-leb}
 use native.Mathlib.Omega.{arith}
 use Rattle.zpu.proofs.good_length.Statement.{statement}
 use Rattle.zpu.proofs.good_length.Tie as tie
-use Rattle.zpu.proofs.good_length.Reads as reads
-use Rattle.zpu.proofs.good_length.Lts as lts
 
 returns : tie.Need-returns
 unfolding goodLength

@@ -1,10 +1,6 @@
 use borrow.Author.Needs.{needs}
 use Rattle.core_instructions.proofs.immediate.above.Statement.{statement}
 use Rattle.core_instructions.proofs.immediate.above.Tie as tie
-use Rattle.core_instructions.proofs.immediate.above.Reads as reads
-use Rattle.core_instructions.proofs.immediate.above.Lts as lts
-use Rattle.core_instructions.proofs.immediate.sign.Reads as sign-reads
-use Rattle.memory.proofs.read_word.Reads as read-word-reads
 
 read-word-requires : tie.Need-read-word-requires
 read-word-requires c κs = search needs

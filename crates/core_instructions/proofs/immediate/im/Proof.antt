@@ -5,13 +5,6 @@ use Rattle.core_instructions.proofs.BothFlags.{im-none, im-past, im-don
 use borrow.Author.Needs.{needs}
 use Rattle.core_instructions.proofs.immediate.im.Statement.{statement}
 use Rattle.core_instructions.proofs.immediate.im.Tie as tie
-use Rattle.core_instructions.proofs.immediate.im.Reads as reads
-use Rattle.core_instructions.proofs.immediate.im.Lts as lts
-use Rattle.core_instructions.proofs.immediate.above.Reads as above-reads
-use Rattle.core_instructions.proofs.immediate.joined.Reads as joined-reads
-use Rattle.core_instructions.proofs.immediate.past.Reads as past-reads
-use Rattle.machine.proofs.State.mark.Reads as mark-reads
-use Rattle.memory.proofs.write_word.Reads as write-word-reads
 
 sub-v : tie.Need-sub-v
 sub-v c = search needs

@@ -2,8 +2,6 @@ use mathlib.Core.Path.{refl}
 use borrow.Author.Needs.{needs}
 use Rattle.core_instructions.proofs.immediate.past.Statement.{statement}
 use Rattle.core_instructions.proofs.immediate.past.Tie as tie
-use Rattle.core_instructions.proofs.immediate.past.Reads as reads
-use Rattle.core_instructions.proofs.immediate.past.Lts as lts
 
 add-result : tie.Need-add-result
 add-result c = search needs

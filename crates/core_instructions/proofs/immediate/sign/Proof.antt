@@ -1,9 +1,7 @@
 use native.Mathlib.Omega.{arith}
-use borrow.Author.Tests.{lt-ltb, le-ltb, le-leb, lt-leb, eq-eqb, ne-eqb}
+use borrow.Author.Tests.{lt-ltb, le-ltb}
 use Rattle.core_instructions.proofs.immediate.sign.Statement.{statement}
 use Rattle.core_instructions.proofs.immediate.sign.Tie as tie
-use Rattle.core_instructions.proofs.immediate.sign.Reads as reads
-use Rattle.core_instructions.proofs.immediate.sign.Lts as lts
 
 returns : tie.Need-returns
 returns c = let a = c .before .args in simp (lt-ltb (a .v) 64 (omega arith))

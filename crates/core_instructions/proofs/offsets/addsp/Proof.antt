@@ -1,19 +1,13 @@
 use Rattle.machine.proofs.Offsets.{offset-past}
-use Prim.Native.Nat.{_+_, _-_, _/_}
+use Prim.Native.Nat.{_+_, _/_}
 use lib.ListN.{length}
 use mathlib.Core.Path.{refl}
 use native.Mathlib.Omega.{arith}
-use borrow.Author.Tests.{lt-ltb, le-ltb, le-leb, lt-leb, eq-eqb, ne-eqb}
+use borrow.Author.Tests.{lt-ltb}
 use Rattle.machine.specs.Table.{effectOf, row}
 use borrow.Author.Needs.{needs}
 use Rattle.core_instructions.proofs.offsets.addsp.Statement.{statement}
 use Rattle.core_instructions.proofs.offsets.addsp.Tie as tie
-use Rattle.core_instructions.proofs.offsets.addsp.Reads as reads
-use Rattle.core_instructions.proofs.offsets.addsp.Lts as lts
-use Rattle.machine.proofs.State.next.Reads as next-reads
-use Rattle.memory.proofs.read_word.Reads as read-word-reads
-use Rattle.memory.proofs.write_word.Reads as write-word-reads
-use Rattle.std.proofs.num.wrapping_add_u32.Reads as wrapping-add-u32-reads
 
 add-at : tie.Need-add-at
 add-at c = search needs

@@ -1,16 +1,12 @@
-use Prim.Native.Nat.{_+_, _-_, _/_}
+use Prim.Native.Nat.{_/_}
 use lib.ListN.{length}
 use mathlib.Core.Path.{refl}
 use native.Mathlib.Omega.{arith}
-use borrow.Author.Tests.{lt-ltb, le-ltb, le-leb, lt-leb, eq-eqb, ne-eqb}
+use borrow.Author.Tests.{lt-ltb, le-ltb}
 use Rattle.machine.specs.Table.{effectOf, row}
 use borrow.Author.Needs.{needs}
 use Rattle.core_instructions.proofs.stack.poppc.Statement.{statement}
 use Rattle.core_instructions.proofs.stack.poppc.Tie as tie
-use Rattle.core_instructions.proofs.stack.poppc.Reads as reads
-use Rattle.core_instructions.proofs.stack.poppc.Lts as lts
-use Rattle.machine.proofs.State.jump.Reads as jump-reads
-use Rattle.memory.proofs.read_word.Reads as read-word-reads
 
 returns : tie.Need-returns
 unfolding effectOf row

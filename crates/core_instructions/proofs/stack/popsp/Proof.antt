@@ -1,18 +1,13 @@
 use Rattle.memory.specs.Memory.{word}
-use Prim.Native.Nat.{_+_, _-_, _/_}
+use Prim.Native.Nat.{_/_}
 use lib.ListN.{length}
 use mathlib.Core.Path.{refl}
 use native.Mathlib.Omega.{arith}
-use borrow.Author.Tests.{lt-ltb, le-ltb, le-leb, lt-leb, eq-eqb, ne-eqb}
+use borrow.Author.Tests.{lt-ltb, le-ltb, le-leb, lt-leb}
 use Rattle.machine.specs.Table.{effectOf, row}
 use borrow.Author.Needs.{needs}
 use Rattle.core_instructions.proofs.stack.popsp.Statement.{statement}
 use Rattle.core_instructions.proofs.stack.popsp.Tie as tie
-use Rattle.core_instructions.proofs.stack.popsp.Reads as reads
-use Rattle.core_instructions.proofs.stack.popsp.Lts as lts
-use Rattle.machine.proofs.State.next.Reads as next-reads
-use Rattle.memory.proofs.ByteAddr.word.Reads as word-reads
-use Rattle.memory.proofs.read_word.Reads as read-word-reads
 
 returns : tie.Need-returns
 unfolding effectOf row

@@ -1,18 +1,12 @@
-use Prim.Native.Nat.{_+_, _-_, _/_}
+use Prim.Native.Nat.{_/_}
 use lib.ListN.{length}
 use mathlib.Core.Path.{refl}
 use native.Mathlib.Omega.{arith}
-use borrow.Author.Tests.{lt-ltb, le-ltb, le-leb, lt-leb, eq-eqb, ne-eqb}
+use borrow.Author.Tests.{lt-ltb, le-ltb}
 use Rattle.machine.specs.Table.{effectOf, row}
 use borrow.Author.Needs.{needs}
 use Rattle.wide_instructions.proofs.flow.call.Statement.{statement}
 use Rattle.wide_instructions.proofs.flow.call.Tie as tie
-use Rattle.wide_instructions.proofs.flow.call.Reads as reads
-use Rattle.wide_instructions.proofs.flow.call.Lts as lts
-use Rattle.machine.proofs.State.jump.Reads as jump-reads
-use Rattle.memory.proofs.read_word.Reads as read-word-reads
-use Rattle.memory.proofs.write_word.Reads as write-word-reads
-use Rattle.std.proofs.num.wrapping_add_u32.Reads as wrapping-add-u32-reads
 
 returns : tie.Need-returns
 unfolding effectOf row
@@ -21,8 +15,8 @@ returns c = let a = c .before .before .args in simp (le-ltb (a .s .sp .0) (lengt
 read-word-requires : tie.Need-read-word-requires
 read-word-requires c κs = search needs
 
-wrapping-add-u32-requires : tie.Need-wrapping-add-u32-requires
-wrapping-add-u32-requires c κs = search needs
+following-requires : tie.Need-following-requires
+following-requires c κs = search needs
 
 write-word-requires : tie.Need-write-word-requires
 write-word-requires c κs = search needs
@@ -35,7 +29,7 @@ same-length c = search needs
 
 returns-2 : tie.Need-returns-2
 unfolding effectOf row
-returns-2 c = let a = c .before .before .before .before .before .before .before .before .before .before .args in simp (lt-ltb (a .s .sp .0) (length (a .image .now) / 4) (omega arith)) ((cc), (cc))
+returns-2 c = let a = c .before .before .before .before .before .before .before .before .before .before .args in simp (lt-ltb (a .s .sp .0) (length (a .image .now) / 4) (omega arith)) ((cc), (rw (c .before .before .before .before .following .ensures) at (c .before .before .before .write-word .ensures)))
 
 pub call-spec : {M : Type 1} → statement M
 call-spec =
@@ -43,7 +37,7 @@ call-spec =
     (tie.spec
     returns
     read-word-requires
-    wrapping-add-u32-requires
+    following-requires
     write-word-requires
     jump-requires
     same-length

@@ -1,20 +1,14 @@
 use Rattle.memory.specs.Memory.{word}
 use Rattle.machine.proofs.Offsets.{offset-past}
-use Prim.Native.Nat.{_+_, _-_, _/_}
+use Prim.Native.Nat.{_+_, _/_}
 use lib.ListN.{length}
 use mathlib.Core.Path.{refl}
 use native.Mathlib.Omega.{arith}
-use borrow.Author.Tests.{lt-ltb, le-ltb, le-leb, lt-leb, eq-eqb, ne-eqb}
+use borrow.Author.Tests.{lt-ltb, eq-eqb, ne-eqb}
 use Rattle.machine.specs.Table.{effectOf, row}
 use borrow.Author.Needs.{needs}
 use Rattle.wide_instructions.proofs.flow.eqbranch.Statement.{statement}
 use Rattle.wide_instructions.proofs.flow.eqbranch.Tie as tie
-use Rattle.wide_instructions.proofs.flow.eqbranch.Reads as reads
-use Rattle.wide_instructions.proofs.flow.eqbranch.Lts as lts
-use Rattle.machine.proofs.State.jump.Reads as jump-reads
-use Rattle.machine.proofs.State.next.Reads as next-reads
-use Rattle.memory.proofs.read_word.Reads as read-word-reads
-use Rattle.wide_instructions.proofs.flow.relative.Reads as relative-reads
 
 add-if1 : tie.Need-add-if1
 add-if1 c = search needs

@@ -1,18 +1,12 @@
-use Prim.Native.Nat.{_+_, _-_, _/_}
+use Prim.Native.Nat.{_/_}
 use lib.ListN.{length}
 use mathlib.Core.Path.{refl}
 use native.Mathlib.Omega.{arith}
-use borrow.Author.Tests.{lt-ltb, le-ltb, le-leb, lt-leb, eq-eqb, ne-eqb}
+use borrow.Author.Tests.{lt-ltb, le-ltb}
 use Rattle.machine.specs.Table.{effectOf, row}
 use borrow.Author.Needs.{needs}
 use Rattle.wide_instructions.proofs.pushes.pushspadd.Statement.{statement}
 use Rattle.wide_instructions.proofs.pushes.pushspadd.Tie as tie
-use Rattle.wide_instructions.proofs.pushes.pushspadd.Reads as reads
-use Rattle.wide_instructions.proofs.pushes.pushspadd.Lts as lts
-use Rattle.machine.proofs.State.next.Reads as next-reads
-use Rattle.memory.proofs.read_word.Reads as read-word-reads
-use Rattle.memory.proofs.write_word.Reads as write-word-reads
-use Rattle.wide_instructions.proofs.pushes.four_times.Reads as four-times-reads
 
 returns : tie.Need-returns
 unfolding effectOf row

@@ -1,19 +1,13 @@
 use Rattle.memory.specs.Memory.{word}
-use Prim.Native.Nat.{_+_, _-_, _/_}
+use Prim.Native.Nat.{_/_}
 use lib.ListN.{length}
 use mathlib.Core.Path.{refl}
 use native.Mathlib.Omega.{arith}
-use borrow.Author.Tests.{lt-ltb, le-ltb, le-leb, lt-leb, eq-eqb, ne-eqb}
+use borrow.Author.Tests.{lt-ltb, le-ltb}
 use Rattle.machine.specs.Table.{effectOf, row}
 use borrow.Author.Needs.{needs}
 use Rattle.word_instructions.proofs.loads.load.Statement.{statement}
 use Rattle.word_instructions.proofs.loads.load.Tie as tie
-use Rattle.word_instructions.proofs.loads.load.Reads as reads
-use Rattle.word_instructions.proofs.loads.load.Lts as lts
-use Rattle.word_instructions.proofs.loads.read.Reads as read-reads
-use Rattle.machine.proofs.State.next.Reads as next-reads
-use Rattle.memory.proofs.read_word.Reads as read-word-reads
-use Rattle.memory.proofs.write_word.Reads as write-word-reads
 
 returns : tie.Need-returns
 unfolding effectOf row

@@ -4,12 +4,6 @@ use native.Mathlib.Omega.{arith}
 use borrow.Author.Needs.{needs}
 use Rattle.word_instructions.proofs.loads.read.Statement.{statement}
 use Rattle.word_instructions.proofs.loads.read.Tie as tie
-use Rattle.word_instructions.proofs.loads.read.Reads as reads
-use Rattle.word_instructions.proofs.loads.read.Lts as lts
-use Rattle.memory.proofs.ByteAddr.word.Reads as word-reads
-use Rattle.memory.proofs.read_byte.Reads as read-byte-reads
-use Rattle.memory.proofs.read_half.Reads as read-half-reads
-use Rattle.memory.proofs.read_word.Reads as read-word-reads
 
 enum-told : tie.Need-enum-told
 enum-told c = search needs

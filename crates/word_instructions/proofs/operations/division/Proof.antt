@@ -1,20 +1,14 @@
 use Rattle.memory.specs.Memory.{word}
 use Rattle.machine.proofs.Offsets.{offset-past}
-use Prim.Native.Nat.{_+_, _-_, _/_}
+use Prim.Native.Nat.{_+_, _/_}
 use lib.ListN.{length}
 use mathlib.Core.Path.{refl}
 use native.Mathlib.Omega.{arith}
-use borrow.Author.Tests.{lt-ltb, le-ltb, le-leb, lt-leb, eq-eqb, ne-eqb}
+use borrow.Author.Tests.{lt-ltb, le-ltb}
 use Rattle.machine.specs.Table.{effectOf, row}
 use borrow.Author.Needs.{needs}
 use Rattle.word_instructions.proofs.operations.division.Statement.{statement}
 use Rattle.word_instructions.proofs.operations.division.Tie as tie
-use Rattle.word_instructions.proofs.operations.division.Reads as reads
-use Rattle.word_instructions.proofs.operations.division.Lts as lts
-use Rattle.arithmetic.proofs.division.Reads as division-reads
-use Rattle.machine.proofs.State.next.Reads as next-reads
-use Rattle.memory.proofs.read_word.Reads as read-word-reads
-use Rattle.memory.proofs.write_word.Reads as write-word-reads
 
 add-second : tie.Need-add-second
 add-second c = search needs

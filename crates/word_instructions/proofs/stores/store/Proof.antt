@@ -1,19 +1,14 @@
 use Rattle.machine.proofs.Offsets.{offset-past}
 use Rattle.memory.specs.Memory.{word}
-use Prim.Native.Nat.{_+_, _-_, _/_}
+use Prim.Native.Nat.{_+_, _/_}
 use lib.ListN.{length}
 use mathlib.Core.Path.{refl}
 use native.Mathlib.Omega.{arith}
-use borrow.Author.Tests.{lt-ltb, le-ltb, le-leb, lt-leb, eq-eqb, ne-eqb}
+use borrow.Author.Tests.{lt-ltb, le-ltb}
 use Rattle.machine.specs.Table.{effectOf, row}
 use borrow.Author.Needs.{needs}
 use Rattle.word_instructions.proofs.stores.store.Statement.{statement}
 use Rattle.word_instructions.proofs.stores.store.Tie as tie
-use Rattle.word_instructions.proofs.stores.store.Reads as reads
-use Rattle.word_instructions.proofs.stores.store.Lts as lts
-use Rattle.word_instructions.proofs.stores.write.Reads as write-reads
-use Rattle.machine.proofs.State.next.Reads as next-reads
-use Rattle.memory.proofs.read_word.Reads as read-word-reads
 
 add-if1 : tie.Need-add-if1
 add-if1 c = search needs

@@ -4,12 +4,6 @@ use native.Mathlib.Omega.{arith}
 use borrow.Author.Needs.{needs}
 use Rattle.word_instructions.proofs.stores.write.Statement.{statement}
 use Rattle.word_instructions.proofs.stores.write.Tie as tie
-use Rattle.word_instructions.proofs.stores.write.Reads as reads
-use Rattle.word_instructions.proofs.stores.write.Lts as lts
-use Rattle.memory.proofs.ByteAddr.word.Reads as word-reads
-use Rattle.memory.proofs.write_byte.Reads as write-byte-reads
-use Rattle.memory.proofs.write_half.Reads as write-half-reads
-use Rattle.memory.proofs.write_word.Reads as write-word-reads
 
 enum-told : tie.Need-enum-told
 enum-told c = search needs

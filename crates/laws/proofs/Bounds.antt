@@ -1,0 +1,53 @@
+-- Where a run ends: memory has the length that it had, and the stack pointer is inside it, or is the one that was given.
+use Prim.Native.Nat.{ℕ, zero, suc, _+_, _/_, _%_, _^_, _≤_, _<_}
+use mathlib.Core.Path.{_≡_, refl, _∙_}
+use mathlib.Core.Bool.{Bool, true, false}
+use mathlib.Core.List.{List}
+use native.Mathlib.Omega.{arith}
+use native.Mathlib.Decide.{decLt}
+use lib.ListN.{length, length-set}
+use Rattle.memory.specs.Memory.{setBytes}
+use Rattle.machine.specs.declared.Core.{Core}
+use Rattle.machine.specs.Effects.{Effect, Effect.refuse, Effect.stop, Effect.go, Effect.write}
+use Rattle.machine.specs.Run.{Place, place, Ran, after, runFrom, goodLength, run}
+use Rattle.laws.proofs.Kept.{Within, step-in}
+use Rattle.laws.proofs.Steps.{effectAt}
+use Rattle.laws.proofs.Turns.{good, run-image, run-start, run-goes}
+
+pub length-setBytes : (m : List ℕ) (a k v : ℕ) → length (setBytes m a k v) ≡ length m
+unfolding setBytes
+length-setBytes m a zero v = refl
+length-setBytes m a (suc k) v = length-set (setBytes m a k (v / 256)) (a + k) (v % 256) ∙ length-setBytes m a k (v / 256)
+
+-- the run ends in memory of length l, its stack pointer inside it
+abbrev Inside : ℕ → Ran → Type 0
+Inside l r = (length (r .place .memory) ≡ l) × (r .place .state .sp .0 ≤ l / 4)
+
+inside : (core : Core) (k n : ℕ) (p : Place) → p .state .sp .0 ≤ length (p .memory) / 4 → Inside (length (p .memory)) (runFrom core k n p)
+unfolding runFrom
+inside core zero n p h = (refl, h)
+inside core (suc k) n p h = by-effect (effectAt core p) (step-in (p .memory) (p .state) h core) (inside core k (n + 1))
+  where
+    by-effect : (e : Effect) → Within (length (p .memory) / 4) e
+        → ((q : Place) → q .state .sp .0 ≤ length (q .memory) / 4 → Inside (length (q .memory)) (runFrom core k (n + 1) q))
+        → Inside (length (p .memory)) (after e n p (runFrom core k))
+    by-effect (refuse o) w more = (refl, h)
+    by-effect (stop t) w more = (refl, w)
+    by-effect (go t) w more = more (place (p .memory) t) w
+    by-effect (write t a j v) w more =
+        let e : length (setBytes (p .memory) a j v) ≡ length (p .memory) = length-setBytes (p .memory) a j v in
+        rw e at (more (place (setBytes (p .memory) a j v) t) (rw e w))
+
+-- an sp of 32 bits stays one of 32 bits
+pub sp-fits : (core : Core) (limit : ℕ) (p : Place) → p .state .sp .0 < 2 ^ 32
+    → run core limit p .place .state .sp .0 < 2 ^ 32
+sp-fits core limit p h = by-image (goodLength (length (p .memory))) refl
+  where
+    by-image : (t : Bool) → goodLength (length (p .memory)) ≡ t → run core limit p .place .state .sp .0 < 2 ^ 32
+    by-image false e = rw (run-image core limit (p .memory) (p .state) e) h
+    by-image true e = by-start (decLt (length (p .memory) / 4) (p .state .sp .0))
+      where
+        by-start : Dec (length (p .memory) / 4 < p .state .sp .0) → run core limit p .place .state .sp .0 < 2 ^ 32
+        by-start (yes k) = rw (run-start core limit (p .memory) (p .state) e k) h
+        by-start (no k) =
+            rw (run-goes core limit (p .memory) (p .state) e (omega arith)) (omega (arith, good (length (p .memory)) e .0, inside core limit 0 p (omega arith) .1))
