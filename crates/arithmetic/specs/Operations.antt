@@ -12,9 +12,9 @@ use Rattle.arithmetic.specs.declared.BinOp.the-variants.{Add, And, Or, L
 use Rattle.arithmetic.specs.declared.DivOp.{DivOp}
 use Rattle.arithmetic.specs.declared.DivOp.the-variants.{Div, Mod}
 
--- after 32 single steps every bit is the filling bit, and further steps change nothing
-abbrev pub shiftedBy : ℕ → ℕ
-shiftedBy a = 2 ^ min a 32
+-- what a single steps of a shift multiply or divide by: after 32 every bit is the filling bit, and further steps change nothing
+abbrev pub shiftFactor : ℕ → ℕ
+shiftFactor a = 2 ^ min a 32
 
 abbrev pub unaryOf : UnOp → ℕ → ℕ
 unaryOf Not a = 2 ^ 32 - 1 - a
@@ -34,9 +34,9 @@ binaryOf Neq a b = oneIf (not (eqb a b))
 binaryOf Sub a b = wrap (b + (2 ^ 32 - a))
 binaryOf Xor a b = bitXor a b
 binaryOf Mult a b = wrap (a * b)
-binaryOf LShiftRight a b = b / shiftedBy a
-binaryOf AShiftLeft a b = wrap (b * shiftedBy a)
-binaryOf AShiftRight a b = wordOf (shrZ (signed b) (shiftedBy a))
+binaryOf LShiftRight a b = b / shiftFactor a
+binaryOf AShiftLeft a b = wrap (b * shiftFactor a)
+binaryOf AShiftRight a b = wordOf (shrZ (signed b) (shiftFactor a))
 
 -- toward zero, and the remainder with B's sign
 abbrev pub divisionOf : DivOp → ℕ → ℕ → ℕ

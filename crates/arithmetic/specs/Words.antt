@@ -15,7 +15,7 @@ oneIf t = cond t 1 0
 unfoldable pub signed : ℕ → ℤ
 signed x = cond (ltb x (2 ^ 31)) (pos x) (negsuc (2 ^ 32 - 1 - x))
 
--- the word of an integer
+-- the word of an integer, modulo 2 ^ 32
 unfoldable pub wordOf : ℤ → ℕ
 wordOf (pos n) = wrap n
 wordOf (negsuc n) = 2 ^ 32 - 1 - wrap n

@@ -5,7 +5,7 @@ ghost use mathlib.Core.Bool.{not, cond};
 ghost use lib.IntN.{pos, negℤ, natAbs};
 ghost use lib.Signed.{ltZ, leZ, nonNeg, quotZ, remZ, shrZ};
 ghost use Rattle.arithmetic.specs.Words.{wrap, oneIf, signed, wordOf, flipped};
-ghost use Rattle.arithmetic.specs.Operations.{shiftedBy, unaryOf, binaryOf, divisionOf};
+ghost use Rattle.arithmetic.specs.Operations.{shiftFactor, unaryOf, binaryOf, divisionOf};
 
 pub enum UnOp {
     Not,
@@ -68,19 +68,19 @@ fn mult(a: u32, b: u32) -> u32
 }
 
 fn shift_right(b: u32, a: u32) -> u32
-    ensures { λ r. ⌜ r ≡ b / shiftedBy a ⌝ }
+    ensures { λ r. ⌜ r ≡ b / shiftFactor a ⌝ }
 {
     if a < 32 { b >> a } else { 0 }
 }
 
 fn shift_left(b: u32, a: u32) -> u32
-    ensures { λ r. ⌜ r ≡ wrap (b * shiftedBy a) ⌝ }
+    ensures { λ r. ⌜ r ≡ wrap (b * shiftFactor a) ⌝ }
 {
     if a < 32 { b << a } else { 0 }
 }
 
 fn shift_signed(b: u32, a: u32) -> u32
-    ensures { λ r. ⌜ r ≡ wordOf (shrZ (signed b) (shiftedBy a)) ⌝ }
+    ensures { λ r. ⌜ r ≡ wordOf (shrZ (signed b) (shiftFactor a)) ⌝ }
 {
     if is_negative(b) {
         !shift_right(!b, a)

@@ -1,23 +1,17 @@
 -- Where a run ends: memory has the length that it had, and the stack pointer is inside it, or is the one that was given.
-use Prim.Native.Nat.{ℕ, zero, suc, _+_, _/_, _%_, _^_, _≤_, _<_}
-use mathlib.Core.Path.{_≡_, refl, _∙_}
+use Prim.Native.Nat.{ℕ, zero, suc, _+_, _/_, _^_, _≤_, _<_}
+use mathlib.Core.Path.{_≡_, refl}
 use mathlib.Core.Bool.{Bool, true, false}
-use mathlib.Core.List.{List}
 use native.Mathlib.Omega.{arith}
 use native.Mathlib.Decide.{decLt}
-use lib.ListN.{length, length-set}
+use lib.ListN.{length}
 use Rattle.memory.specs.Memory.{setBytes}
 use Rattle.machine.specs.declared.Core.{Core}
 use Rattle.machine.specs.Effects.{Effect, Effect.refuse, Effect.stop, Effect.go, Effect.write}
 use Rattle.machine.specs.Run.{Place, place, Ran, after, runFrom, goodLength, run}
-use Rattle.laws.proofs.Kept.{Within, step-in}
+use Rattle.laws.proofs.Kept.{Within, step-in, length-setBytes}
 use Rattle.laws.proofs.Steps.{effectAt}
 use Rattle.laws.proofs.Turns.{good, run-image, run-start, run-goes}
-
-pub length-setBytes : (m : List ℕ) (a k v : ℕ) → length (setBytes m a k v) ≡ length m
-unfolding setBytes
-length-setBytes m a zero v = refl
-length-setBytes m a (suc k) v = length-set (setBytes m a k (v / 256)) (a + k) (v % 256) ∙ length-setBytes m a k (v / 256)
 
 -- the run ends in memory of length l, its stack pointer inside it
 abbrev Inside : ℕ → Ran → Type 0

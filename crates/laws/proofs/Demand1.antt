@@ -2,29 +2,19 @@
 use Prim.Native.Nat.{ℕ, _/_, _≤_, _<_}
 use mathlib.Core.Path.{_≡_, refl}
 use mathlib.Core.Bool.{Bool, true, false}
-use mathlib.Core.Option.{some}
 use native.Mathlib.Omega.{arith}
 use native.Mathlib.Decide.{decLt}
 use lib.ListN.{length}
 use Rattle.machine.specs.declared.Core.{Core}
 use Rattle.machine.specs.declared.Outcome.{Outcome}
 use Rattle.machine.specs.declared.Outcome.the-variants.{Limit, Break, Image, Start}
-use Rattle.machine.specs.Outcomes.{number}
 use Rattle.machine.specs.Run.{Place, steps, Ran, ended, goodLength, run}
-use Rattle.laws.specs.Ends.{Ends, Ends.by-limit, Ends.by-break, Ends.by-refusal}
+use Rattle.laws.specs.Ends.{Listed, LeavesAll, Ends, Ends.by-limit, Ends.by-break, Ends.by-refusal}
 use Rattle.laws.proofs.Turns.{run-image, run-start}
 use Rattle.laws.proofs.Demand2.{demand2}
 
--- the outcome is one of the nine
-abbrev Listed : Ran → Type 0
-Listed r = (o : Outcome) × (r .outcome ≡ number o)
-
--- state and memory are those to which the steps done lead, and nothing of a refused instruction is left
-abbrev Left : Core → Place → Ran → Type 0
-Left core p r = steps core (r .steps) p ≡ some (r .place)
-
 module _ (core : Core) (limit : ℕ) (p : Place) where
-  -- IMAGE and START hand back the given state, 0 steps and the image untouched
+  -- IMAGE and START, each given exactly for its reason
   pub image-refused : goodLength (length (p .memory)) ≡ false → run core limit p ≡ ended Image 0 p
   image-refused h = run-image core limit (p .memory) (p .state) h
 
@@ -32,16 +22,19 @@ module _ (core : Core) (limit : ℕ) (p : Place) where
   start-refused h k = run-start core limit (p .memory) (p .state) h k
 
   abbrev Kind : Ran → Type 0
-  Kind r = Listed r × (2 ≤ r .outcome → Left core p r)
+  Kind r =
+      Listed r
+      × (2 ≤ r .outcome → LeavesAll core p r)
+      × (2 ≤ r .outcome → r .outcome < 4 → (r .steps ≡ 0) × (r .place ≡ p))
 
   entry : (o : Outcome) → Kind (ended o 0 p)
   unfolding steps
-  entry o = ((o, refl), λ _. refl)
+  entry o = ((o, refl), λ _. refl, λ _ _. (refl, refl))
 
   ends : (r : Ran) → Ends core limit p r → Kind r
-  ends r (by-limit s) = ((Limit, refl), λ h. absurd (omega arith))
-  ends r (by-break l s b) = ((Break, refl), λ h. absurd (omega arith))
-  ends r (by-refusal {o = o} l s b) = ((o, refl), λ _. s)
+  ends r (by-limit s) = ((Limit, refl), λ h. absurd (omega arith), λ h k. absurd (omega arith))
+  ends r (by-break l s b) = ((Break, refl), λ h. absurd (omega arith), λ h k. absurd (omega arith))
+  ends r (by-refusal {o = o} l k s b) = ((o, refl), λ _. s, λ h j. absurd (omega arith))
 
   demand1 : Kind (run core limit p)
   demand1 = by-image (goodLength (length (p .memory))) refl
@@ -57,5 +50,10 @@ module _ (core : Core) (limit : ℕ) (p : Place) where
   pub one-of-the-listed : Listed (run core limit p)
   one-of-the-listed = demand1 .0
 
-  pub refusal-leaves-all : 2 ≤ run core limit p .outcome → Left core p (run core limit p)
+  pub refusal-leaves-all : 2 ≤ run core limit p .outcome → LeavesAll core p (run core limit p)
   refusal-leaves-all = demand1 .1
+
+  -- wherever 2 or 3 is given, the given state comes back with 0 steps and the image untouched
+  pub entry-hands-back : 2 ≤ run core limit p .outcome → run core limit p .outcome < 4
+      → (run core limit p .steps ≡ 0) × (run core limit p .place ≡ p)
+  entry-hands-back = demand1 .2

@@ -1,9 +1,11 @@
 -- Demand 2: a run is the definition's steps in order, counted, to the first stop.
-use Prim.Native.Nat.{ℕ, zero, suc, _+_}
+use Prim.Native.Nat.{ℕ, zero, suc, _+_, _/_, _≤_}
 use mathlib.Core.Path.{_≡_, refl, ap, _∙_, subst}
 use mathlib.Core.Option.{some}
-use native.Mathlib.Nat.{zero-add}
+use native.Mathlib.Nat.{add-zero, zero-add}
 use native.Mathlib.Omega.{arith}
+use lib.ListN.{length}
+use Rattle.memory.specs.Memory.{setBytes}
 use Rattle.machine.specs.declared.Core.{Core}
 use Rattle.machine.specs.declared.State.{State}
 use Rattle.machine.specs.declared.Outcome.{Outcome}
@@ -12,23 +14,31 @@ use Rattle.machine.specs.Effects.{Effect, Effect.refuse, Effect.stop, Effect.go
 use Rattle.machine.specs.Run.{Place, place, steps, ended, after, runFrom, run}
 use Rattle.laws.specs.Ends.{Admitted, Ends, Ends.by-limit, Ends.by-break, Ends.by-refusal}
 use Rattle.laws.proofs.Steps.{effectAt, steps-add, run-follows}
+use Rattle.laws.proofs.Kept.{Within, step-in, length-setBytes}
 use Rattle.laws.proofs.Turns.{run-goes}
 
 module _ (core : Core) (limit : ℕ) (p : Place) where
+  abbrev In : Place → Type 0
+  In q = q .state .sp .0 ≤ length (q .memory) / 4
+
   -- with n steps done and k left
-  walk : (k n : ℕ) (q : Place) → n + k ≡ limit → steps core n p ≡ some q → Ends core limit p (runFrom core k n q)
+  walk : (k n : ℕ) (q : Place) → In q → n + k ≡ limit → steps core n p ≡ some q → Ends core limit p (runFrom core k n q)
   unfolding runFrom steps
-  walk zero n q e h =
+  walk zero n q i e h =
       let z : n ≡ limit = omega arith in rw z (by-limit (subst (λ (x : ℕ). steps core x p ≡ some q) z h))
-  walk (suc k) n q e h =
-      by-effect (effectAt core q) (λ r s. walk k (n + 1) r (omega arith) (steps-add core n 1 p q h ∙ s)) refl
+  walk (suc k) n q i e h =
+      by-effect (effectAt core q) (step-in (q .memory) (q .state) i core)
+      (λ r j s. walk k (n + 1) r j (omega arith) (steps-add core n 1 p q h ∙ s))
+      refl
     where
-      by-effect : (x : Effect) → ((r : Place) → steps core 1 q ≡ some r → Ends core limit p (runFrom core k (n + 1) r))
-          → effectAt core q ≡ x → Ends core limit p (after x n q (runFrom core k))
-      by-effect (refuse o) f s = by-refusal {n = n} (omega arith) h s
-      by-effect (stop t) f s = by-break {n = n} (omega arith) h s
-      by-effect (go t) f s = f _ (rw s)
-      by-effect (write t a w v) f s = f _ (rw s)
+      by-effect : (x : Effect) → Within (length (q .memory) / 4) x
+          → ((r : Place) → In r → steps core 1 q ≡ some r → Ends core limit p (runFrom core k (n + 1) r)) → effectAt core q ≡ x
+          → Ends core limit p (after x n q (runFrom core k))
+      by-effect (refuse o) w f s = by-refusal {n = n} (omega arith) w h s
+      by-effect (stop t) w f s = by-break {n = n} (omega arith) h s
+      by-effect (go t) w f s = f (place (q .memory) t) w (rw s)
+      by-effect (write t a b v) w f s =
+          f (place (setBytes (q .memory) a b v) t) (rw (length-setBytes (q .memory) a b v) w) (rw s)
 
   module _ (a : Admitted p) where
     admitted : run core limit p ≡ runFrom core limit 0 p
@@ -36,16 +46,16 @@ module _ (core : Core) (limit : ℕ) (p : Place) where
 
     pub demand2 : Ends core limit p (run core limit p)
     unfolding steps
-    demand2 = rw admitted (walk limit 0 p (zero-add limit) refl)
+    demand2 = rw admitted (walk limit 0 p (a .start) (zero-add limit) refl)
 
     -- after n steps done the run stands at q with n counted
     pub counted : (n k : ℕ) (q : Place) → n + k ≡ limit → steps core n p ≡ some q → run core limit p ≡ runFrom core k n q
     counted n k q e h = admitted ∙ rw (← e) (run-follows core n k 0 p q h ∙ ap (λ (c : ℕ). runFrom core k c q) (zero-add n))
 
--- LIMIT before FETCH: with no step left nothing else is tested
-pub limit-first : (core : Core) (p : Place) → Admitted p → run core 0 p ≡ ended Limit 0 p
+-- LIMIT before FETCH and all else: with no step left nothing is tested
+pub limit-first : (core : Core) (n : ℕ) (p q : Place) → Admitted p → steps core n p ≡ some q → run core n p ≡ ended Limit n q
 unfolding runFrom
-limit-first core p a = admitted core 0 p a
+limit-first core n p q a h = counted core n p a n 0 q (add-zero n) h
 
 -- BREAK on the last allowed step is 1, counted, with its own state
 pub break-on-the-last : (core : Core) (n : ℕ) (p q : Place) (t : State) → Admitted p → steps core n p ≡ some q → effectAt core q ≡ stop t

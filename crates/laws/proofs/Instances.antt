@@ -12,7 +12,7 @@ use Rattle.machine.specs.Instructions.{first, decode}
 use Rattle.machine.specs.Table.{row, effectOf, stepOf}
 use Rattle.machine.specs.Run.{Place, place, steps, ended, goodLength, run}
 use Rattle.laws.specs.Ends.{Admitted, Ends}
-use Rattle.laws.proofs.Demand1.{image-refused, start-refused, refusal-leaves-all}
+use Rattle.laws.proofs.Demand1.{image-refused, start-refused, refusal-leaves-all, entry-hands-back}
 use Rattle.laws.proofs.Demand2.{demand2, limit-first, break-on-the-last, refused-uncounted}
 
 abbrev at : ℕ → ℕ → State
@@ -21,6 +21,9 @@ at pc sp = record { pc = record { 0 = pc }; sp = record { 0 = sp }; flag = false
 -- a NOP, an illegal byte and two BREAKs, the stack empty
 abbrev small : ℕ → Place
 small pc = place (11 ∷ 1 ∷ 0 ∷ 0 ∷ []) (at pc 1)
+
+abbrev nops : ℕ → Place
+nops pc = place (11 ∷ 11 ∷ 11 ∷ 11 ∷ []) (at pc 1)
 
 small-admitted : (pc : ℕ) → Admitted (small pc)
 unfolding goodLength
@@ -37,8 +40,10 @@ past-the-stack = start-refused Narrow 7 (place (0 ∷ 0 ∷ 0 ∷ 0 ∷ []) (at 
 some-run : Ends Wide 2 (small 0) (run Wide 2 (small 0))
 some-run = demand2 Wide 2 (small 0) (small-admitted 0)
 
-limit-hides-fetch : run Wide 0 (small 4) ≡ ended Limit 0 (small 4)
-limit-hides-fetch = limit-first Wide (small 4) (small-admitted 4)
+-- the NOP at the last byte leaves the counter at L, and the limit hides that
+limit-hides-fetch : run Wide 1 (nops 3) ≡ ended Limit 1 (nops 4)
+unfolding goodLength steps first decode row effectOf stepOf
+limit-hides-fetch = limit-first Wide 1 (nops 3) (nops 4) (record { image = refl; start = omega arith }) refl
 
 break-is-the-last : run Wide 1 (small 2) ≡ ended Break 1 (small 3)
 unfolding steps first decode row effectOf stepOf
@@ -51,3 +56,6 @@ illegal-uncounted = refused-uncounted Wide 1 0 (small 0) (small 1) Illegal (smal
 illegal-leaves-all : steps Wide (run Wide 2 (small 0) .steps) (small 0) ≡ some (run Wide 2 (small 0) .place)
 illegal-leaves-all =
     let h : 2 ≤ run Wide 2 (small 0) .outcome = rw illegal-uncounted (omega arith) in refusal-leaves-all Wide 2 (small 0) h
+
+no-image-hands-back : (run Wide 7 (place [] (at 0 0)) .steps ≡ 0) × (run Wide 7 (place [] (at 0 0)) .place ≡ place [] (at 0 0))
+no-image-hands-back = entry-hands-back Wide 7 (place [] (at 0 0)) (rw no-image (omega arith)) (rw no-image (omega arith))

@@ -3,11 +3,12 @@ use Prim.Native.Nat.{ℕ}
 use mathlib.Core.Path.{_≡_, refl, sym, ap, _∙_}
 use mathlib.Core.List.{List, [], _∷_}
 use lib.ListN.{getD}
+use Rattle.machine.specs.declared.Core.{Core}
 use Rattle.machine.specs.declared.Finish.{Finish}
 use Rattle.machine.specs.declared.Outcome.{Outcome}
 use Rattle.machine.specs.declared.Outcome.the-variants.{Limit, Break, Image, Start, Fetch, Illegal, Stack, Address, Divide}
 use Rattle.machine.specs.Outcomes.{number}
-use Rattle.machine.specs.Run.{Ran, told}
+use Rattle.machine.specs.Run.{Place, Ran, run, told}
 
 abbrev listed : List Outcome
 listed = Limit ∷ Break ∷ Image ∷ Start ∷ Fetch ∷ Illegal ∷ Stack ∷ Address ∷ Divide ∷ []
@@ -26,8 +27,9 @@ by-number Divide = refl
 pub one-outcome : (o u : Outcome) → number o ≡ number u → o ≡ u
 one-outcome o u h = sym (by-number o) ∙ ap (λ (n : ℕ). getD listed n Limit) h ∙ by-number u
 
-pub one-result : (r : Ran) (f g : Finish) (m n : List ℕ) → told f m ≡ r → told g n ≡ r → (f ≡ g) × (m ≡ n)
-one-result r f g m n h k = (same-finish, ap (λ (x : Ran). x .place .memory) e)
+pub one-result : (core : Core) (limit : ℕ) (p : Place) (f g : Finish) (m n : List ℕ) → told f m ≡ run core limit p → told g n ≡ run core limit p
+    → (f ≡ g) × (m ≡ n)
+one-result core limit p f g m n h k = (same-finish, ap (λ (x : Ran). x .place .memory) e)
   where
     e : told f m ≡ told g n
     e = h ∙ sym k

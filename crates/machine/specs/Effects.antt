@@ -1,4 +1,4 @@
--- What an instruction does: it is refused, or there is a next state and at most one write.
+-- What an instruction does: it is refused, it stops the run, as BREAK does, or there is a next state and at most one write.
 use Prim.Native.Nat.{ℕ}
 use mathlib.Core.Bool.{Bool, cond}
 use mathlib.Core.List.{List}

@@ -10,7 +10,7 @@ use Rattle.machine.specs.declared.Finish.{Finish}
 use Rattle.machine.specs.declared.Outcome.the-variants.{Limit, Break}
 use Rattle.machine.specs.Effects.{Effect, Effect.refuse, Effect.stop, Effect.go, Effect.write, memoryAfter}
 
--- what the run's entry tests once, and each step keeps
+-- what holds of memory and state from the run's entry on
 abbrev pub Ready : List ℕ → State → Type 0
 Ready m s = (length m ≤ 65536) × (length m % 4 ≡ 0) × (s .sp .0 ≤ length m / 4)
 
@@ -27,6 +27,6 @@ Carried m s e r m′ = (r ≡ answerOf s e) × (m′ ≡ memoryAfter m e)
 
 -- how a run ends by an answer, n steps before it
 abbrev pub finishOf : Answer → ℕ → Finish
-finishOf (Done t) n = record { outcome = Limit; steps = n; state = t }
+finishOf (Done t) n = record { outcome = Limit; steps = n + 1; state = t }
 finishOf (Broke t) n = record { outcome = Break; steps = n + 1; state = t }
 finishOf (Refused t o) n = record { outcome = o; steps = n; state = t }

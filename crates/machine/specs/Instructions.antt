@@ -93,12 +93,12 @@ middle Narrow b = EMULATE (b - 32)
 middle Wide b = getD wide (b - 32) ILLEGAL
 
 -- the low 5 bits of the byte with bit 4 inverted, which adding 16 modulo 32 does
-abbrev pub offset : ℕ → ℕ
-offset b = (b + 16) % 32
+abbrev pub inverted : ℕ → ℕ
+inverted b = (b + 16) % 32
 
 -- the instruction that a byte is
 unfoldable pub decode : Core → ℕ → Instr
 decode core b =
     cond (ltb b 32) (first b)
     (cond (ltb b 64) (middle core b)
-    (cond (ltb b 96) (STORESP (offset b)) (cond (ltb b 128) (LOADSP (offset b)) (IM (b - 128)))))
+    (cond (ltb b 96) (STORESP (inverted b)) (cond (ltb b 128) (LOADSP (inverted b)) (IM (b - 128)))))

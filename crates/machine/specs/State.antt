@@ -1,4 +1,4 @@
--- A state is the program counter, the stack pointer and the immediate flag. Only these three make the next one.
+-- A state is the program counter, the stack pointer and the immediate flag. The next one is made by `next`, `mark` or `jump`.
 use Prim.Native.Nat.{ℕ, _+_}
 use mathlib.Core.Bool.{true, false}
 use Rattle.arithmetic.specs.Words.{wrap}

@@ -44,6 +44,10 @@ module _ (m : List ℕ) (s : State) where
   abbrev pub sp : ℕ
   sp = s .sp .0
 
+  -- W is L / 4
+  abbrev pub W : ℕ
+  W = length m / 4
+
   -- A, the top
   abbrev pub A : ℕ
   A = word m sp
@@ -54,7 +58,7 @@ module _ (m : List ℕ) (s : State) where
 
   -- STACK: a stack word read or written has index W or more
   abbrev pub inside : ℕ → Effect → Effect
-  inside w e = guard (ltb w (length m / 4)) Stack e
+  inside w e = guard (ltb w W) Stack e
 
   abbrev pub put : State → ℕ → ℕ → Effect
   put t w v = inside w (write t (4 * w) 4 v)
@@ -73,9 +77,9 @@ module _ (m : List ℕ) (s : State) where
   row (STORESP n) = sp ∷ [] ⇒ put (next s (sp + 1)) (sp + n) A
   row (LOADSP n) = (sp + n) ∷ [] ⇒ push (next s (sp - 1)) (word m (sp + n))
   row (EMULATE k) = [] ⇒ push (jump s (32 * k) (sp - 1)) (wrap (counter + 1))
-  row (ADDSP n) = sp ∷ (sp + n) ∷ [] ⇒ put (next s sp) sp (wrap (A + word m (sp + n)))
+  row (ADDSP offset) = sp ∷ (sp + offset) ∷ [] ⇒ put (next s sp) sp (wrap (A + word m (sp + offset)))
   row PUSHSP = [] ⇒ push (next s (sp - 1)) (4 * sp)
-  row POPSP = sp ∷ [] ⇒ guard (leb (A / 4) (length m / 4)) Stack (go (next s (A / 4)))
+  row POPSP = sp ∷ [] ⇒ guard (leb (A / 4) W) Stack (go (next s (A / 4)))
   row POPPC = sp ∷ [] ⇒ go (jump s A (sp + 1))
   row (unary op) = sp ∷ [] ⇒ put (next s sp) sp (unaryOf op A)
   row (binary op) = sp ∷ (sp + 1) ∷ [] ⇒ put (next s (sp + 1)) (sp + 1) (binaryOf op A B)

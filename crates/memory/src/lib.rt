@@ -20,7 +20,7 @@ impl ByteAddr {
 }
 
 impl WordIndex {
-    // Where in the image the word starts: the one place of the factor of four.
+    // Where in the image the word starts.
     fn place(self) -> usize
         requires { ⌜ self .0 ≤ 16384 ⌝ }
         ensures { λ r. ⌜ r ≡ 4 * self .0 ⌝ }

@@ -6,7 +6,7 @@ use machine::State;
 ghost use mathlib.Core.Path.{_≡_};
 ghost use Prim.Native.Nat.{ℕ, _<_, _≤_};
 ghost use Rattle.machine.specs.Table.{effectOf, stepOf};
-ghost use Rattle.machine.specs.Instructions.{first, middle, offset, decode};
+ghost use Rattle.machine.specs.Instructions.{first, middle, inverted, decode};
 ghost use Rattle.machine.specs.Inner.{Ready, Carried};
 
 // Bytes 32 to 63.
@@ -34,8 +34,8 @@ fn first(image: &mut [u8], s: State, byte: u8) -> Answer
     }
 }
 
-fn offset(byte: u8) -> u8
-    ensures { λ r. ⌜ r ≡ offset byte ⌝ }
+fn inverted(byte: u8) -> u8
+    ensures { λ r. ⌜ r ≡ inverted byte ⌝ }
 {
     (byte % 32 + 16) % 32
 }
@@ -49,8 +49,8 @@ fn carry_out(core: Core, image: &mut [u8], s: State, byte: u8) -> Answer
     match class {
         0 => first(image, s, byte),
         1 => middle(core, image, s, byte),
-        2 => core_instructions::storesp(image, s, offset(byte)),
-        3 => core_instructions::loadsp(image, s, offset(byte)),
+        2 => core_instructions::storesp(image, s, inverted(byte)),
+        3 => core_instructions::loadsp(image, s, inverted(byte)),
         _ => core_instructions::im(image, s, byte),
     }
 }

@@ -1,4 +1,4 @@
-// The families that both cores share: operations on the top words, loads and stores.
+// The families, whose members differ in an operation or a width: operations on the top words, loads and stores.
 mod loads;
 mod operations;
 mod stores;

@@ -1,4 +1,4 @@
-// The public face: a step and a run of either core, on any image, state and limit.
+// The public face: a step and a run of either core, on any image, state and limit, and the number of an outcome.
 use machine::Answer;
 use machine::Core;
 use machine::Finish;
@@ -6,23 +6,23 @@ use machine::Outcome;
 use machine::State;
 ghost use mathlib.Core.Path.{_≡_};
 ghost use Prim.Native.Nat.{ℕ, _+_, _^_, _<_};
-ghost use lib.ListN.{length};
+ghost use Rattle.machine.specs.Outcomes.{number};
 ghost use Rattle.machine.specs.Inner.{Ready, finishOf};
 ghost use Rattle.machine.specs.Run.{place, goodLength, runFrom, run, told};
 
-fn good_length(length: usize) -> bool
-    ensures { λ r. ⌜ r ≡ goodLength length ⌝ }
+fn good_length(l: usize) -> bool
+    ensures { λ r. ⌜ r ≡ goodLength l ⌝ }
 {
-    if length == 0 {
+    if l == 0 {
         return false;
     }
-    if 65536 < length {
+    if 65536 < l {
         return false;
     }
-    length % 4 == 0
+    l % 4 == 0
 }
 
-// How a run ends by an answer that is no step done, n steps before it.
+// How a run ends by an answer, n steps before it.
 fn ended_by(answer: Answer, n: u32) -> Finish
     requires { ⌜ n + 1 < 2 ^ 32 ⌝ }
     ensures { λ r. ⌜ r ≡ finishOf answer n ⌝ }
@@ -30,7 +30,7 @@ fn ended_by(answer: Answer, n: u32) -> Finish
     match answer {
         Answer::Done(t) => Finish {
             outcome: Outcome::Limit,
-            steps: n,
+            steps: n + 1,
             state: t,
         },
         Answer::Broke(t) => Finish {
@@ -94,4 +94,21 @@ pub fn step(core: Core, image: &mut [u8], start: State) -> Finish
     ensures { λ r. ⌜ told r (now (image .exit)) ≡ run core 1 (place (now (image .entry)) start) ⌝ }
 {
     run(core, image, start, 1)
+}
+
+// The paper's number of an outcome.
+pub fn number(outcome: Outcome) -> u32
+    ensures { λ r. ⌜ r ≡ number outcome ⌝ }
+{
+    match outcome {
+        Outcome::Limit => 0,
+        Outcome::Break => 1,
+        Outcome::Image => 2,
+        Outcome::Start => 3,
+        Outcome::Fetch => 4,
+        Outcome::Illegal => 5,
+        Outcome::Stack => 6,
+        Outcome::Address => 7,
+        Outcome::Divide => 8,
+    }
 }

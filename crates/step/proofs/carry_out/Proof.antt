@@ -11,14 +11,14 @@ first-requires c κs = search needs
 middle-requires : tie.Need-middle-requires
 middle-requires c κs = search needs
 
-offset-requires : tie.Need-offset-requires
-offset-requires c κs = search needs
+inverted-requires : tie.Need-inverted-requires
+inverted-requires c κs = search needs
 
 storesp-requires : tie.Need-storesp-requires
 storesp-requires c κs = search needs
 
-offset-requires-2 : tie.Need-offset-requires-2
-offset-requires-2 c κs = search needs
+inverted-requires-2 : tie.Need-inverted-requires-2
+inverted-requires-2 c κs = search needs
 
 loadsp-requires : tie.Need-loadsp-requires
 loadsp-requires c κs = search needs
@@ -67,9 +67,9 @@ carry-out-spec =
     (tie.spec
     first-requires
     middle-requires
-    offset-requires
+    inverted-requires
     storesp-requires
-    offset-requires-2
+    inverted-requires-2
     loadsp-requires
     im-requires
     same-length

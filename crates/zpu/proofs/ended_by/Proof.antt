@@ -5,11 +5,14 @@ use Rattle.zpu.proofs.ended_by.Tie as tie
 enum-known-answer : tie.Need-enum-known-answer
 enum-known-answer c = search needs
 
+add-t9 : tie.Need-add-t9
+add-t9 c = search needs
+
 enum-known-answer-2 : tie.Need-enum-known-answer-2
 enum-known-answer-2 c = search needs
 
-add-t10 : tie.Need-add-t10
-add-t10 c = search needs
+add-t11 : tie.Need-add-t11
+add-t11 c = search needs
 
 enum-known-answer-3 : tie.Need-enum-known-answer-3
 enum-known-answer-3 c = search needs
@@ -26,4 +29,12 @@ returns-3 c = rw (c .before .answer3 .given .1)
 pub ended-by-spec : {M : Type 1} → statement M
 ended-by-spec =
     tie.close
-    (tie.spec enum-known-answer enum-known-answer-2 add-t10 enum-known-answer-3 returns returns-2 returns-3)
+    (tie.spec
+    enum-known-answer
+    add-t9
+    enum-known-answer-2
+    add-t11
+    enum-known-answer-3
+    returns
+    returns-2
+    returns-3)

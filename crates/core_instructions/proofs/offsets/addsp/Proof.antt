@@ -1,5 +1,6 @@
+use Rattle.machine.proofs.Offsets.{offset-inside}
 use Rattle.machine.proofs.Offsets.{offset-past}
-use Prim.Native.Nat.{_+_, _/_}
+use Prim.Native.Nat.{_/_}
 use lib.ListN.{length}
 use mathlib.Core.Path.{refl}
 use native.Mathlib.Omega.{arith}
@@ -36,7 +37,7 @@ same-length c = search needs
 
 returns-2 : tie.Need-returns-2
 unfolding effectOf row
-returns-2 c = let a = c .before .before .before .before .before .before .before .before .before .before .before .before .before .args in simp (lt-ltb (a .s .sp .0) (length (a .image .now) / 4) (omega arith), lt-ltb (a .s .sp .0 + a .n) (length (a .image .now) / 4) (omega arith)) ((cc), (cc))
+returns-2 c = let a = c .before .before .before .before .before .before .before .before .before .before .before .before .before .args in rw (offset-inside (a .image .now) (a .s) (a .n) _ (omega arith)) (simp (lt-ltb (a .s .sp .0) (length (a .image .now) / 4) (omega arith)) ((cc), (cc)))
 
 pub addsp-spec : {M : Type 1} → statement M
 addsp-spec =

@@ -1,3 +1,4 @@
+use Rattle.machine.proofs.Offsets.{word-past, word-inside}
 use lib.Dec.{ltb}
 use Rattle.machine.proofs.Offsets.{either-way}
 use Prim.Native.Nat.{_+_, _-_, _/_}
@@ -22,7 +23,7 @@ add-from c = search needs
 
 returns-2 : tie.Need-returns-2
 unfolding effectOf row
-returns-2 c = let a = c .before .before .before .args in simp (le-ltb (a .s .sp .0 + a .n) (length (a .image .now) / 4) (omega arith)) (refl, refl)
+returns-2 c = let a = c .before .before .before .args in rw (word-past (a .image .now) (a .s) (a .n) _ (omega arith)) (refl, refl)
 
 read-word-requires : tie.Need-read-word-requires
 read-word-requires c κs = search needs
@@ -38,7 +39,7 @@ same-length c = search needs
 
 returns-3 : tie.Need-returns-3
 unfolding effectOf row
-returns-3 c = let a = c .before .before .before .before .before .before .before .before .before .before .args in simp (lt-ltb 0 (a .s .sp .0) (omega arith), lt-ltb (a .s .sp .0 + a .n) (length (a .image .now) / 4) (omega arith), lt-ltb (a .s .sp .0 - 1) (length (a .image .now) / 4) (omega arith)) ((cc), (cc))
+returns-3 c = let a = c .before .before .before .before .before .before .before .before .before .before .args in rw (word-inside (a .image .now) (a .s) (a .n) _ (omega arith)) (simp (lt-ltb 0 (a .s .sp .0) (omega arith), lt-ltb (a .s .sp .0 - 1) (length (a .image .now) / 4) (omega arith)) ((cc), (cc)))
 
 pub loadsp-spec : {M : Type 1} → statement M
 loadsp-spec =

@@ -1,9 +1,7 @@
+use Rattle.machine.proofs.Offsets.{offset-inside}
 use Rattle.machine.proofs.Offsets.{offset-past}
-use Prim.Native.Nat.{_+_, _/_}
-use lib.ListN.{length}
 use mathlib.Core.Path.{refl}
 use native.Mathlib.Omega.{arith}
-use borrow.Author.Tests.{lt-ltb}
 use Rattle.machine.specs.Table.{effectOf, row}
 use borrow.Author.Needs.{needs}
 use Rattle.core_instructions.proofs.offsets.storesp.Statement.{statement}
@@ -33,7 +31,7 @@ same-length c = search needs
 
 returns-2 : tie.Need-returns-2
 unfolding effectOf row
-returns-2 c = let a = c .before .before .before .before .before .before .before .before .before .args in simp (lt-ltb (a .s .sp .0) (length (a .image .now) / 4) (omega arith), lt-ltb (a .s .sp .0 + a .n) (length (a .image .now) / 4) (omega arith)) ((cc), (cc))
+returns-2 c = let a = c .before .before .before .before .before .before .before .before .before .args in rw (offset-inside (a .image .now) (a .s) (a .n) _ (omega arith)) ((cc), (cc))
 
 pub storesp-spec : {M : Type 1} → statement M
 storesp-spec =
