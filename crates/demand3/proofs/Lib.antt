@@ -1,0 +1,10 @@
+pub mod Memory
+pub mod Between
+pub mod Steps
+pub mod Dependence
+pub mod Window
+pub mod Emulation
+pub mod Alike
+pub mod CoreStep
+pub mod ShortStep
+pub mod Theorem

@@ -1,0 +1,65 @@
+-- Dirt, by byte, along the wide run.
+use Prim.Native.Nat.{ℕ, _+_, _-_, _*_}
+use mathlib.Core.Bool.{Bool, false, not, _&&_, _||_}
+use mathlib.Core.List.{List, [], _∷_}
+use lib.ListN.{getD}
+use lib.Dec.{ltb, leb, eqb}
+use Rattle.machine.specs.declared.Core.the-variants.{Wide}
+use Rattle.machine.specs.declared.State.{State}
+use Rattle.machine.specs.Effects.{Effect, Effect.refuse, Effect.stop, Effect.go, Effect.write, memoryAfter}
+use Rattle.machine.specs.Table.{stepOf}
+use Rattle.machine.specs.Run.{Place, place}
+use Rattle.routines.specs.Constants.{freeWords}
+
+abbrev pub Dirt : Type 0
+Dirt = ℕ → Bool
+
+-- at the start no byte is dirty
+abbrev pub clean : Dirt
+clean a = false
+
+-- the byte that a step from p fetches
+abbrev pub fetched : Place → ℕ
+fetched p = getD (p .memory) (p .state .pc .0) 0
+
+-- what the wide core does at p
+abbrev pub wideStep : Place → Effect
+wideStep p = stepOf Wide (p .memory) (p .state)
+
+abbrev pub among : ℕ → List ℕ → Bool
+among b [] = false
+among b (x ∷ xs) = eqb b x || among b xs
+
+-- the twelve short ones
+unfoldable pub short : ℕ → Bool
+short b = among b (36 ∷ 37 ∷ 38 ∷ 39 ∷ 45 ∷ 46 ∷ 47 ∷ 48 ∷ 49 ∷ 50 ∷ 56 ∷ 61 ∷ [])
+
+-- byte x is one of those from a up to e
+abbrev pub between : ℕ → ℕ → ℕ → Bool
+between a e x = leb a x && ltb x e
+
+-- the bytes that an effect writes
+abbrev pub writes : Effect → ℕ → Bool
+writes (refuse o) x = false
+writes (stop t) x = false
+writes (go t) x = false
+writes (write t a k v) x = between a (a + k) x
+
+-- the state after an effect on s
+abbrev pub stateAfter : State → Effect → State
+stateAfter s (refuse o) = s
+stateAfter s (stop t) = t
+stateAfter s (go t) = t
+stateAfter s (write t a k v) = t
+
+abbrev pub landed : Effect → Place → Place
+landed e p = place (memoryAfter (p .memory) e) (stateAfter (p .state) e)
+
+-- what a short one leaves behind: the free words directly below its sp, and the words between the old sp and the new
+unfoldable pub leaves : ℕ → ℕ → ℕ → Bool
+leaves old new x = between (4 * (old - freeWords)) (4 * old) x || between (4 * old) (4 * new) x
+
+-- the dirt after an effect at p: a short one's is added, and then what the step itself writes is clean
+unfoldable pub dirtied : Effect → Place → Dirt → Dirt
+dirtied e p d x =
+    not (writes e x) && (d x || short (fetched p) && leaves (p .state .sp .0) (stateAfter (p .state) e .sp .0) x)

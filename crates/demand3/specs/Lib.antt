@@ -1,0 +1,2 @@
+pub mod Dirt
+pub mod Demand3

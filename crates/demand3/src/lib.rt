@@ -1,0 +1,1 @@
+// Demand 3: its statement is in specs/Demand3.antt, its proof in proofs/.

@@ -1,0 +1,52 @@
+-- Starts and runs for demand 3: one for each of the twelve, and the printed case.
+use Prim.Native.Nat.{ℕ, _-_, _/_}
+use mathlib.Core.Bool.{false}
+use mathlib.Core.List.{List, [], _∷_, _++_}
+use lib.ListN.{length, replicate}
+use Rattle.machine.specs.Run.{Place, place}
+use Rattle.routines.specs.Constants.{pageLength}
+use Rattle.routines.specs.Page.{page}
+
+-- the page, a program at 2048, and zeros up to a length
+abbrev pub image : ℕ → List ℕ → List ℕ
+image l program = page ++ (program ++ replicate (l - pageLength - length program) 0)
+
+-- a program, started with an empty stack, and where a number of wide steps leads
+pub record Case : Type 0 where
+  pub size : ℕ
+  pub program : List ℕ
+  pub count : ℕ
+  pub counter : ℕ
+  pub sp : ℕ
+  pub top : ℕ
+
+abbrev pub start : Case → Place
+start c =
+    place (image (c .size) (c .program))
+    (record { pc = record { 0 = pageLength }; sp = record { 0 = c .size / 4 }; flag = false })
+
+-- the image's length, the program and the steps; then counter, sp and top after them
+abbrev case : ℕ → List ℕ → ℕ → ℕ → ℕ → ℕ → Case
+case l bs n pc sp top = record { size = l; program = bs; count = n; counter = pc; sp = sp; top = top }
+
+unfoldable pub cases : List Case
+cases =
+    -- LESSTHAN with A = 80000000 and B = 1
+    case 2560 (129 ∷ 11 ∷ 248 ∷ 128 ∷ 128 ∷ 128 ∷ 128 ∷ 36 ∷ []) 8 2056 639 1
+    -- LESSTHANOREQUAL to SUB and XOR, with B = 5 and A = 3
+    ∷ case 2560 (133 ∷ 11 ∷ 131 ∷ 37 ∷ []) 4 2052 639 1
+    ∷ case 2560 (133 ∷ 11 ∷ 131 ∷ 38 ∷ []) 4 2052 639 1
+    ∷ case 2560 (133 ∷ 11 ∷ 131 ∷ 39 ∷ []) 4 2052 639 1
+    ∷ case 2560 (133 ∷ 11 ∷ 131 ∷ 46 ∷ []) 4 2052 639 0
+    ∷ case 2560 (133 ∷ 11 ∷ 131 ∷ 47 ∷ []) 4 2052 639 1
+    ∷ case 2560 (133 ∷ 11 ∷ 131 ∷ 49 ∷ []) 4 2052 639 2
+    ∷ case 2560 (133 ∷ 11 ∷ 131 ∷ 50 ∷ []) 4 2052 639 6
+    -- CALL to 2100, NEG of 3, PUSHSPADD with A = -1
+    ∷ case 2560 (144 ∷ 180 ∷ 45 ∷ []) 3 2100 639 2051
+    ∷ case 2560 (131 ∷ 48 ∷ []) 2 2050 639 4294967293
+    ∷ case 2560 (255 ∷ 61 ∷ []) 2 2050 639 2552
+    -- NEQBRANCH loops back twice: 3 is counted down to 0
+    ∷ case 2560 (131 ∷ 11 ∷ 255 ∷ 5 ∷ 112 ∷ 252 ∷ 56 ∷ []) 17 2055 639 0
+    -- the printed case of zpurun, up to its BREAK
+    ∷ case 4096 (133 ∷ 11 ∷ 131 ∷ 49 ∷ 0 ∷ []) 4 2052 1023 2
+    ∷ []

@@ -1,0 +1,82 @@
+-- The twelve short instructions as data, and the page that serves them.
+use Prim.Native.Nat.{ℕ, zero, suc, _+_, _-_, _*_}
+use mathlib.Core.Bool.{cond}
+use mathlib.Core.List.{List, [], _∷_, _++_, map}
+use lib.ListN.{take, replicate}
+use lib.Dec.{eqb}
+use Rattle.arithmetic.specs.Words.{wrap}
+use Rattle.arithmetic.specs.Operations.{unaryOf, binaryOf}
+use Rattle.arithmetic.specs.declared.UnOp.the-variants.{Neg}
+use Rattle.arithmetic.specs.declared.BinOp.{BinOp}
+use Rattle.arithmetic.specs.declared.BinOp.the-variants.{LessThan, LessThanOrEqual, ULessThan, ULessThanOrEqual, Eq, Neq, Sub, Xor}
+use Rattle.machine.specs.Instructions.{Instr}
+use Rattle.routines.specs.Constants.{pageLength}
+use Rattle.routines.specs.Routines.{Line, lessThan, lessThanOrEqual, uLessThan, uLessThanOrEqual, call, eq, neq, neg, sub, xor, neqBranch, pushSpAdd}
+
+-- a short instruction: the words that it reads, how many of them it pops off, where it goes from the counter, A and B,
+-- and what it leaves on top (nothing, if it pops all that it reads) from the counter, sp, A and B
+pub record Short : Type 0 where
+  pub byte : ℕ
+  pub operands : ℕ
+  pub popped : ℕ
+  pub target : ℕ → ℕ → ℕ → ℕ
+  pub value : ℕ → ℕ → ℕ → ℕ → ℕ
+  pub lines : List Line
+
+abbrev pub onward : ℕ → ℕ → ℕ → ℕ
+onward c a b = wrap (c + 1)
+
+-- pops two, pushes one
+abbrev twoToOne : ℕ → BinOp → List Line → Short
+twoToOne b op l = record { byte = b; operands = 2; popped = 1; target = onward; value = λ c s x y. binaryOf op x y; lines = l }
+
+-- pops two
+abbrev twoToNone : ℕ → (ℕ → ℕ → ℕ → ℕ) → List Line → Short
+twoToNone b t l = record { byte = b; operands = 2; popped = 2; target = t; value = λ c s x y. 0; lines = l }
+
+-- changes the top
+abbrev oneToOne : ℕ → (ℕ → ℕ → ℕ → ℕ) → (ℕ → ℕ → ℕ → ℕ → ℕ) → List Line → Short
+oneToOne b t v l = record { byte = b; operands = 1; popped = 0; target = t; value = v; lines = l }
+
+abbrev pub shorts : List Short
+shorts =
+    twoToOne 36 LessThan lessThan
+    ∷ twoToOne 37 LessThanOrEqual lessThanOrEqual
+    ∷ twoToOne 38 ULessThan uLessThan
+    ∷ twoToOne 39 ULessThanOrEqual uLessThanOrEqual
+    ∷ oneToOne 45 (λ c x y. x) (λ c s x y. wrap (c + 1)) call
+    ∷ twoToOne 46 Eq eq
+    ∷ twoToOne 47 Neq neq
+    ∷ oneToOne 48 onward (λ c s x y. unaryOf Neg x) neg
+    ∷ twoToOne 49 Sub sub
+    ∷ twoToOne 50 Xor xor
+    ∷ twoToNone 56 (λ c x y. cond (eqb y 0) (wrap (c + 1)) (wrap (c + x))) neqBranch
+    ∷ oneToOne 61 onward (λ c s x y. wrap (4 * s + 4 * x)) pushSpAdd
+    ∷ []
+
+abbrev pub bytesOf : List Line → List ℕ
+bytesOf = map (λ l. l .0)
+
+abbrev pub code : Short → List Instr
+code o = map (λ l. l .1) (o .lines)
+
+-- unused bytes are NOPs
+abbrev padded : ℕ → List ℕ → List ℕ
+padded n bs = take n (bs ++ replicate n 11)
+
+-- the routine that serves a byte
+abbrev serving : List Short → ℕ → List Line
+serving [] b = []
+serving (o ∷ os) b = cond (eqb (o .byte) b) (o .lines) (serving os b)
+
+-- the vectors of the n bytes from b on
+abbrev vectors : ℕ → ℕ → List ℕ
+vectors zero b = []
+vectors (suc n) b = padded 32 (bytesOf (serving shorts b)) ++ vectors n (suc b)
+
+unfoldable pub page : List ℕ
+page = padded pageLength (vectors 32 32)
+
+-- where the routine of a byte begins
+abbrev pub vector : ℕ → ℕ
+vector b = 32 * (b - 32)
