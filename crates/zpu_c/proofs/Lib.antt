@@ -1,0 +1,3 @@
+pub mod Fits
+pub mod Laying
+pub mod Unique

@@ -1,0 +1,142 @@
+//! These checks can fail: each wrong machine and each wrong page is told from the right one.
+
+use std::collections::BTreeSet;
+
+use crate::bench::Bench;
+use crate::dirt::{PAGE, SHORT_ONES};
+use crate::machine::{self, set_word, Core, End, State, LIMIT};
+use crate::page::{self, Tally};
+use crate::report::Report;
+use crate::subject::Subject;
+use crate::wrong::{Wrong, WrongMachine};
+use crate::{edges, numbers, random, wrong_core, wrong_runs, wrong_wide};
+
+const RANDOM_CASES: u64 = 20_000;
+
+fn fails(machine: &WrongMachine, check: impl Fn(&mut Bench)) -> bool {
+    let mut bench = Bench::new(machine, Report::quiet());
+    check(&mut bench);
+    bench.report.failed > 0
+}
+
+/// The checks that tell this machine from the right one.
+fn told_by(machine: &WrongMachine, seed: u64) -> Vec<&'static str> {
+    let random_cases = |bench: &mut Bench| random::cases(bench, seed, RANDOM_CASES);
+    let told = [
+        ("numbers", fails(machine, numbers::all)),
+        ("edges", fails(machine, edges::all)),
+        ("random cases", fails(machine, random_cases)),
+    ];
+    told.into_iter().filter(|(_, fails)| *fails).map(|(name, _)| name).collect()
+}
+
+fn wrong_machines() -> Vec<WrongMachine> {
+    let steps = [wrong_core::LOOK_RIGHT, wrong_core::CORE, wrong_wide::WIDE].concat();
+    let steps = steps.into_iter().map(|(name, bend)| (name, Wrong::Step(bend)));
+    let runs = wrong_runs::RUNS.iter().map(|&(name, run)| (name, Wrong::Run(run)));
+    steps.chain(runs).map(|(name, wrong)| WrongMachine { name, wrong }).collect()
+}
+
+pub fn machines(report: &mut Report, seed: u64) {
+    let unbent = WrongMachine { name: "nothing bent", wrong: Wrong::Step(|_| {}) };
+    let told = told_by(&unbent, seed);
+    report.expect(told.is_empty(), || format!("the right machine is told apart by {told:?}"));
+    for machine in wrong_machines() {
+        let name = machine.name;
+        let told = told_by(&machine, seed);
+        report.expect(!told.is_empty(), || format!("wrong machine {name}: not told apart"));
+        if !told.is_empty() {
+            println!("wrong machine {name}: told apart by {}", told.join(", "));
+        }
+    }
+}
+
+/// The subject with its page spoilt.
+struct WrongPage<'a> {
+    right: &'a dyn Subject,
+    spoil: &'a dyn Fn(&mut [u8]),
+}
+
+impl Subject for WrongPage<'_> {
+    fn run(&self, image: &mut [u8], start: State, core: Core, limit: u32) -> End {
+        self.right.run(image, start, core, limit)
+    }
+
+    fn step(&self, image: &mut [u8], start: State, core: Core) -> End {
+        self.right.step(image, start, core)
+    }
+
+    fn has_page(&self) -> bool {
+        true
+    }
+
+    fn page_answer(&self, image: &mut [u8]) -> u32 {
+        let answer = self.right.page_answer(image);
+        if answer == 0 {
+            (self.spoil)(&mut image[..PAGE]);
+        }
+        answer
+    }
+}
+
+fn page_is_told_apart(right: &dyn Subject, byte: u8, spoil: &dyn Fn(&mut [u8])) -> bool {
+    let wrong = WrongPage { right, spoil };
+    let mut bench = Bench::new(&wrong, Report::quiet());
+    page::edges_of(&mut bench, byte, "", &mut Tally::default());
+    bench.report.failed > 0
+}
+
+/// A NOP, which may part two constants, becomes an IM between them, any other byte a NOP.
+fn change_is_told_apart(right: &dyn Subject, byte: u8, at: usize) -> bool {
+    page_is_told_apart(right, byte, &|page| page[at] = if page[at] == 11 { 128 } else { 11 })
+}
+
+/// The page addresses that a short one passes through on the narrow core. No A leads back into
+/// the page.
+fn routine(subject: &dyn Subject, byte: u8) -> BTreeSet<usize> {
+    let mut passed = BTreeSet::new();
+    for top in [3000, 0x7FFF_FFFF, 0x8000_0000, 0xFFFF_FFFF] {
+        for second in [0, 3, 3000, 0x8000_0000] {
+            let mut image = vec![11; 2 * PAGE];
+            subject.lay_page(&mut image);
+            image[3000] = byte;
+            set_word(&mut image, 900, top);
+            set_word(&mut image, 901, second);
+            passed.extend(path(&mut image, State { pc: 3000, sp: 900, flag: false }));
+        }
+    }
+    passed
+}
+
+fn path(image: &mut [u8], mut state: State) -> Vec<usize> {
+    let mut path = Vec::new();
+    for _ in 0..200 {
+        let end = machine::step(image, state, Core::Narrow);
+        state = end.state;
+        if end.outcome != LIMIT || state.pc as usize >= PAGE {
+            break;
+        }
+        path.push(state.pc as usize);
+    }
+    path
+}
+
+/// A change of each routine's first byte must be told apart. Of its other bytes it is printed
+/// how many are, since a change may also happen to do no harm.
+pub fn pages(report: &mut Report, subject: &dyn Subject) {
+    for (byte, name) in SHORT_ONES {
+        let vector = 32 * (byte as usize - 32);
+        let told = change_is_told_apart(subject, byte, vector);
+        report.expect(told, || format!("wrong page {name}, byte {vector}: not told apart"));
+        let nops = page_is_told_apart(subject, byte, &|page| page.fill(11));
+        report.expect(nops, || format!("page of NOPs, {name}: not told apart"));
+        let passed = routine(subject, byte);
+        let (told, untold): (Vec<usize>, Vec<usize>) =
+            passed.iter().partition(|&&at| change_is_told_apart(subject, byte, at));
+        let (bytes, all) = (told.len(), passed.len());
+        println!("wrong page {name}: told apart for {bytes} of {all} bytes, changed one by one");
+        if !untold.is_empty() {
+            println!("wrong page {name}: no difference to be seen with a change at {untold:?}");
+        }
+    }
+}

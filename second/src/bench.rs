@@ -1,0 +1,124 @@
+//! Runs one case on this program's machine and on the subject and compares all they promise.
+
+use crate::machine::{Core, End, State};
+use crate::report::Report;
+use crate::subject::{Own, Subject};
+
+#[derive(Clone, Copy, PartialEq, Eq, Debug)]
+pub enum Call {
+    Step,
+    Run(u32),
+}
+
+pub struct Case<'a> {
+    pub image: &'a [u8],
+    pub start: State,
+    pub core: Core,
+    pub call: Call,
+}
+
+impl Case<'_> {
+    /// Makes the call on a copy of the image.
+    pub fn carry_out(&self, subject: &dyn Subject, image: &mut [u8]) -> End {
+        match self.call {
+            Call::Step => subject.step(image, self.start, self.core),
+            Call::Run(limit) => subject.run(image, self.start, self.core, limit),
+        }
+    }
+}
+
+/// Bytes behind the image that nobody may touch.
+const FENCE: [u8; 8] = [0xA5; 8];
+
+const SHORT_IMAGE: usize = 64;
+
+pub struct Bench<'a> {
+    pub subject: &'a dyn Subject,
+    pub report: Report,
+    /// Whether a failure prints its image even where that is long.
+    pub prints_long_images: bool,
+    ours: Vec<u8>,
+    theirs: Vec<u8>,
+}
+
+impl<'a> Bench<'a> {
+    pub fn new(subject: &'a dyn Subject, report: Report) -> Bench<'a> {
+        Bench { subject, report, prints_long_images: false, ours: Vec::new(), theirs: Vec::new() }
+    }
+
+    /// Compares and reports. Gives this program's end if the subject's is the same.
+    pub fn compare(&mut self, case: &Case, name: impl FnOnce() -> String) -> Option<End> {
+        let (ours, theirs) = self.both(case);
+        if ours == theirs && self.same_bytes(case) {
+            self.report.pass();
+            return Some(ours);
+        }
+        let (described, difference) = (self.describe(case), self.difference(case, ours, theirs));
+        self.report.fail(|| format!("{}: {described}: {difference}", name()));
+        None
+    }
+
+    fn both(&mut self, case: &Case) -> (End, End) {
+        let length = case.image.len();
+        self.ours.clear();
+        self.ours.extend_from_slice(case.image);
+        self.theirs.clear();
+        self.theirs.extend_from_slice(case.image);
+        self.theirs.extend_from_slice(&FENCE);
+        let theirs = case.carry_out(self.subject, &mut self.theirs[..length]);
+        (case.carry_out(&Own, &mut self.ours), theirs)
+    }
+
+    fn same_bytes(&self, case: &Case) -> bool {
+        let (image, fence) = self.theirs.split_at(case.image.len());
+        image == self.ours && fence == FENCE
+    }
+
+    fn difference(&self, case: &Case, ours: End, theirs: End) -> String {
+        let mut parts = Vec::new();
+        let numbers = [
+            ("outcome", ours.outcome, theirs.outcome),
+            ("steps", ours.steps, theirs.steps),
+            ("counter", ours.state.pc, theirs.state.pc),
+            ("sp", ours.state.sp, theirs.state.sp),
+            ("flag", u32::from(ours.state.flag), u32::from(theirs.state.flag)),
+        ];
+        for (name, wanted, given) in numbers {
+            if wanted != given {
+                parts.push(format!("{name} {given} where {wanted} is due"));
+            }
+        }
+        let (image, fence) = self.theirs.split_at(case.image.len());
+        if let Some(at) = (0..image.len()).find(|&at| image[at] != self.ours[at]) {
+            parts
+                .push(format!("byte {at} is {:02X} where {:02X} is due", image[at], self.ours[at]));
+        }
+        if fence != FENCE {
+            parts.push("bytes behind the image were written".to_string());
+        }
+        parts.join(", ")
+    }
+
+    fn describe(&self, case: &Case) -> String {
+        let State { pc, sp, flag } = case.start;
+        let byte = match case.image.get(pc as usize) {
+            Some(byte) => format!("{byte:02X}"),
+            None => "none".to_string(),
+        };
+        format!(
+            "{:?} {:?}, L {}, counter {pc}, sp {sp}, flag {flag}, byte there {byte}{}",
+            case.core,
+            case.call,
+            case.image.len(),
+            self.image_text(case.image)
+        )
+    }
+
+    pub fn image_text(&self, image: &[u8]) -> String {
+        if image.len() > SHORT_IMAGE && !self.prints_long_images {
+            return String::new();
+        }
+        let hex: Vec<String> = image.iter().map(|byte| format!("{byte:02X}")).collect();
+        format!(", image {}", hex.join(" "))
+    }
+}

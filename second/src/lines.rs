@@ -1,0 +1,123 @@
+//! The lines that zpurun prints.
+
+use std::io::Write;
+use std::process::{Command, Stdio};
+
+use crate::bench::Bench;
+use crate::dirt::PAGE;
+use crate::machine::{self, word, words, Core, State};
+use crate::page::EXAMPLE;
+use crate::program::{Writer, ALL};
+use crate::rng::Rng;
+
+const FAMILY: u64 = 3;
+const PROGRAMS: u64 = 200;
+
+pub fn all(bench: &mut Bench, seed: u64) {
+    let Ok(zpurun) = std::env::var("ZPURUN") else {
+        bench.report.note("zpurun: skipped, ZPURUN names no executable");
+        return;
+    };
+    example(bench, &zpurun);
+    refused(bench, &zpurun);
+    if !bench.subject.has_page() {
+        bench.report.note("zpurun: random images skipped, the subject has no page");
+        return;
+    }
+    for length in [2052, 2056, 4096, 16_380, 16_384] {
+        for filling in [0, 11, 0x31, 0x7F, 0x81] {
+            let input = vec![filling; length];
+            check(bench, &zpurun, &input, &format!("{length} bytes of {filling:02X}"));
+        }
+    }
+    for number in 0..PROGRAMS {
+        let input = random_input(&mut Rng::of_case(seed, FAMILY, number));
+        check(bench, &zpurun, &input, &format!("image {number} of seed {seed}"));
+    }
+}
+
+fn check(bench: &mut Bench, zpurun: &str, input: &[u8], name: &str) {
+    let due = lines(bench, input);
+    compare(bench, zpurun, input, name, &due);
+}
+
+fn compare(bench: &mut Bench, zpurun: &str, input: &[u8], name: &str, due: &str) {
+    match printed(zpurun, input) {
+        Ok(text) => bench
+            .report
+            .expect(text == due, || format!("zpurun on {name}: {text:?} where {due:?} is due")),
+        Err(error) => bench.report.fail(|| format!("zpurun on {name}: {error}")),
+    }
+}
+
+fn printed(zpurun: &str, input: &[u8]) -> std::io::Result<String> {
+    let mut child = Command::new(zpurun).stdin(Stdio::piped()).stdout(Stdio::piped()).spawn()?;
+    if let Some(mut stdin) = child.stdin.take() {
+        // A program that refuses the size may close its input early.
+        let _ = stdin.write_all(input);
+    }
+    let output = child.wait_with_output()?;
+    Ok(String::from_utf8_lossy(&output.stdout).into_owned())
+}
+
+fn example(bench: &mut Bench, zpurun: &str) {
+    let mut input = vec![0; 4096];
+    input[PAGE..PAGE + EXAMPLE.len()].copy_from_slice(&EXAMPLE);
+    let due = "wide 1 2053 1023 2\nnarrow 1 2053 1023 2\n";
+    compare(bench, zpurun, &input, "the example", due);
+}
+
+fn refused(bench: &mut Bench, zpurun: &str) {
+    for length in [
+        0, 1, 3, 4, 2044, 2047, 2048, 2049, 2050, 2051, 2053, 2054, 2055, 4094, 4097, 16_383,
+        16_385, 16_386, 16_388, 20_000, 65_536, 65_540, 200_000,
+    ] {
+        let input = vec![11; length];
+        compare(bench, zpurun, &input, &format!("{length} bytes"), "input\n");
+    }
+}
+
+fn lines(bench: &Bench, input: &[u8]) -> String {
+    let mut laid = input.to_vec();
+    bench.subject.lay_page(&mut laid);
+    let start = State { pc: PAGE as u32, sp: words(&laid), flag: false };
+    let line = |name: &str, core: Core, limit: u32| {
+        let mut image = laid.clone();
+        let end = machine::run(&mut image, start, core, limit);
+        let State { pc, sp, .. } = end.state;
+        let top = match sp < words(&image) {
+            true => word(&image, sp).to_string(),
+            false => "-".to_string(),
+        };
+        format!("{name} {} {pc} {sp} {top}\n", end.outcome)
+    };
+    line("wide", Core::Wide, 1000) + &line("narrow", Core::Narrow, 200_000)
+}
+
+/// A program from 2048 on that starts with an empty stack, or any bytes at all.
+fn random_input(rng: &mut Rng) -> Vec<u8> {
+    let most = if rng.one_in(4) { 4096 } else { 640 };
+    let length = 4 * rng.between(513, most) as usize;
+    let mut input = vec![0; length];
+    rng.fill(&mut input);
+    if rng.one_in(4) {
+        return input;
+    }
+    let end = length.min(PAGE + rng.between(4, 200) as usize);
+    let stop = rng.pick(&[0, 11, 1]);
+    input[end..].fill(stop);
+    // A stack of some depth to begin with: IM and NOP by turns.
+    let lead = (end - PAGE).min(24);
+    for at in (PAGE..PAGE + lead).step_by(2) {
+        set_pair(&mut input, at, rng.next() as u8 | 128);
+    }
+    Writer { image: &mut input, at: PAGE + lead, end, rng, repertoire: &ALL }.fill();
+    input
+}
+
+fn set_pair(input: &mut [u8], at: usize, im: u8) {
+    input[at] = im;
+    if at + 1 < input.len() {
+        input[at + 1] = 11;
+    }
+}
