@@ -1,0 +1,4 @@
+pub mod Decimal
+pub mod Lines
+pub mod Printed
+pub mod Text
