@@ -8,6 +8,7 @@ use native.Mathlib.Omega.{arith}
 use native.Mathlib.Decide.{decLt}
 use borrow.Author.Tests.{lt-ltb, le-ltb}
 use lib.Dec.{T, ltb, leb, leb→le}
+use Rattle.memory.proofs.Lengths.{length-setBytes}
 use Rattle.machine.specs.declared.Core.the-variants.{Narrow, Wide}
 use Rattle.machine.specs.declared.State.{State}
 use Rattle.machine.specs.Instructions.{Instr, decode}
@@ -18,7 +19,7 @@ use Rattle.routines.specs.Constants.{pageLength}
 use Rattle.routines.proofs.Tests.{holds, neither}
 use Rattle.demand3.specs.Dirt.{Dirt, wideStep, fetched, between, writes, landed, dirtied}
 use Rattle.demand3.specs.Demand3.{Allowed, CleanWords, core, instruction}
-use Rattle.demand3.proofs.Memory.{Outside, length-written, outside-same, written-bytes, written-alike}
+use Rattle.demand3.proofs.Memory.{Outside, outside-same, written-bytes, written-alike}
 use Rattle.demand3.proofs.Steps.{Goes, goes-on, one-step}
 use Rattle.demand3.proofs.Dependence.{SameWords, same-effect}
 use Rattle.demand3.proofs.Between.{not-between, outside}
@@ -73,8 +74,8 @@ module _ {p : Place} {d : Dirt} {m′ : List ℕ} (E : Alike d (p .memory) m′)
     paged = E .paged;
   }
   after (write t a n v) g k = record {
-    same-length = length-written m′ a n v ∙ E .same-length ∙ sym (length-written m a n v);
-    short = rw (length-written m a n v) (E .short);
+    same-length = length-setBytes m′ a n v ∙ E .same-length ∙ sym (length-setBytes m a n v);
+    short = rw (length-setBytes m a n v) (E .short);
     same-bytes = λ x h. written-alike m m′ a n v x (E .same-length) (λ o. E .same-bytes x (was-clean x h o));
     wide-bytes = written-bytes m a n v (E .wide-bytes);
     narrow-bytes = written-bytes m′ a n v (E .narrow-bytes);

@@ -12,6 +12,7 @@ use borrow.Author.Tests.{lt-ltb, le-ltb, leb-true}
 use lib.ListN.{length, getD, take, drop, List·getD-map}
 use lib.Seq.{getD-take, getD-drop}
 use lib.Dec.{ltb, leb}
+use Rattle.memory.proofs.Lengths.{length-setBytes}
 use Rattle.memory.specs.Memory.{bytes, setBytes, word}
 use Rattle.arithmetic.specs.Words.{wrap}
 use Rattle.machine.specs.declared.Core.the-variants.{Narrow}
@@ -26,7 +27,7 @@ use Rattle.routines.proofs.Tests.{both}
 use Rattle.routines.proofs.Entries.{In, at-entry, same-at}
 use Rattle.routines.proofs.Frame.{Frame, words, entered, goal, window}
 use Rattle.routines.proofs.Shorts.{held, in-page, emulated, fitting, fits, ended, runs, Goes, Leaves, laws}
-use Rattle.demand3.proofs.Memory.{Outside, Bytes, length-written, outside-same, read-written, read-outside, written-bytes, read-lt}
+use Rattle.demand3.proofs.Memory.{Outside, Bytes, outside-same, read-written, read-outside, written-bytes, read-lt}
 use Rattle.demand3.proofs.Steps.{steps-add, one-step}
 use Rattle.demand3.proofs.Window.{Window, at, Code, Runs, code-runs}
 
@@ -128,7 +129,7 @@ module _ {o : Short} (member : In o shorts) (s : State) (m : List ℕ) (short : 
   begun : Window base size m m₁ (words size f)
   unfolding f m₁
   begun = record {
-    same-length = length-written m (4 * (top - 1)) 4 (wrap (c + 1));
+    same-length = length-setBytes m (4 * (top - 1)) 4 (wrap (c + 1));
     words = length-words size f;
     room = omega arith;
     outside = λ x h. outside-same m (4 * (top - 1)) 4 (wrap (c + 1)) x (aside x h);

@@ -8,6 +8,7 @@ use native.Mathlib.Omega.{arith}
 use native.Mathlib.Decide.{decLt, ℕ-discrete}
 use lib.ListN.{length, getD, set, length-set, List·getD-eq-default}
 use lib.Seq.{getD-set-same, getD-set-other}
+use Rattle.memory.proofs.Lengths.{length-setBytes}
 use Rattle.memory.specs.Memory.{bytes, setBytes}
 
 -- x is none of the bytes from a up to e
@@ -16,11 +17,6 @@ Outside a e x = (x < a) ⊎ (e ≤ x)
 
 abbrev pub Bytes : List ℕ → Type 0
 Bytes m = (i : ℕ) → getD m i 0 < 256
-
-pub length-written : (m : List ℕ) (a k v : ℕ) → length (setBytes m a k v) ≡ length m
-unfolding setBytes
-length-written m a zero v = refl
-length-written m a (suc k) v = length-set (setBytes m a k (v / 256)) (a + k) (v % 256) ∙ length-written m a k (v / 256)
 
 pub outside-same : (m : List ℕ) (a k v x : ℕ) → Outside a (a + k) x → getD (setBytes m a k v) x 0 ≡ getD m x 0
 unfolding setBytes
@@ -61,7 +57,7 @@ read-written m a (suc k) v fit h =
     read-alike m₁ (set m₁ (a + k) (v % 256)) a k (λ j l. getD-set-other m₁ (a + k) (a + j) (v % 256) 0 (omega arith))
     ∙ read-written m a k (v / 256) (omega arith) (omega arith) in
     let low : getD (set m₁ (a + k) (v % 256)) (a + k) 0 ≡ v % 256 =
-    getD-set-same m₁ (a + k) (v % 256) 0 (omega (arith, length-written m a k (v / 256))) in
+    getD-set-same m₁ (a + k) (v % 256) 0 (omega (arith, length-setBytes m a k (v / 256))) in
     ap₂ (λ (x y : ℕ). x * 256 + y) high low ∙ omega arith
 
 pub read-outside : (m : List ℕ) (a k v x n : ℕ) → ((j : ℕ) → j < n → Outside a (a + k) (x + j)) → bytes (setBytes m a k v) x n ≡ bytes m x n
@@ -106,7 +102,7 @@ written-alike m m′ a zero v x e h = h (side (decLt x a))
     side (no l) = inr (omega arith)
 written-alike m m′ a (suc k) v x e h =
     set-alike (setBytes m a k (v / 256)) (setBytes m′ a k (v / 256)) (a + k) (v % 256) x
-    (length-written m′ a k (v / 256) ∙ e ∙ sym (length-written m a k (v / 256)))
+    (length-setBytes m′ a k (v / 256) ∙ e ∙ sym (length-setBytes m a k (v / 256)))
     (λ n. written-alike m m′ a k (v / 256) x e (λ o. h (wider n o)))
   where
     wider : x ≢ a + k → Outside a (a + k) x → Outside a (a + suc k) x

@@ -10,6 +10,7 @@ use native.Mathlib.Omega.{arith}
 use borrow.Author.Tests.{lt-ltb, ltb-true, eqb-true}
 use lib.ListN.{length, getD}
 use lib.Dec.{T, ltb, eqb}
+use Rattle.memory.proofs.Lengths.{length-setBytes}
 use Rattle.memory.specs.Memory.{bytes, setBytes, word}
 use Rattle.arithmetic.specs.Words.{oneIf}
 use Rattle.machine.specs.declared.Core.the-variants.{Wide}
@@ -27,7 +28,7 @@ use Rattle.routines.proofs.Entries.{In, at-entry, same-at}
 use Rattle.routines.proofs.Shorts.{wordsFrom, said, meanings, shaped, shapes}
 use Rattle.demand3.specs.Dirt.{Dirt, wideStep, fetched, among, short, between, writes, leaves, stateAfter, landed, dirtied}
 use Rattle.demand3.specs.Demand3.{Allowed, CleanWords}
-use Rattle.demand3.proofs.Memory.{Outside, length-written, outside-same, read-written, read-lt, alike-read, written-bytes}
+use Rattle.demand3.proofs.Memory.{Outside, outside-same, read-written, read-lt, alike-read, written-bytes}
 use Rattle.demand3.proofs.Between.{not-between, is-between}
 use Rattle.demand3.proofs.Steps.{Goes}
 use Rattle.demand3.proofs.Emulation.{Paged, Emulated, emulates}
@@ -209,8 +210,8 @@ module _ {p : Place} {d : Dirt} {m′ : List ℕ} (E : Alike d (p .memory) m′)
     paged = paged;
   }
   alike true l n = record {
-    same-length = narrow .same-length ∙ E .same-length ∙ sym (length-written m spot 4 value);
-    short = rw (length-written m spot 4 value) (E .short);
+    same-length = narrow .same-length ∙ E .same-length ∙ sym (length-setBytes m spot 4 value);
+    short = rw (length-setBytes m spot 4 value) (E .short);
     same-bytes = λ x h. by x h (between spot (spot + 4) x) refl;
     wide-bytes = written-bytes m spot 4 value (E .wide-bytes);
     narrow-bytes = narrow .bytes;

@@ -12,6 +12,7 @@ use borrow.Author.Tests.{lt-ltb}
 use lib.ListN.{length, getD, set, length-set}
 use lib.Seq.{getD-set-same, getD-set-other}
 use lib.Dec.{T, ltb, ltb→lt}
+use Rattle.memory.proofs.Lengths.{length-setBytes}
 use Rattle.memory.specs.Memory.{bytes, setBytes, word}
 use Rattle.arithmetic.specs.Words.{wrap}
 use Rattle.arithmetic.specs.declared.BinOp.the-variants.{Add}
@@ -24,7 +25,7 @@ use Rattle.machine.specs.Run.{Place, place, onward, steps}
 use Rattle.routines.specs.Constants.{pageLength, firstStackWord}
 use Rattle.routines.proofs.Frame.{Frame, Frame.running, Frame.left, Frame.stuck, un, bin, address, check, pushed, andThen, instruction, through}
 use Rattle.routines.proofs.Words.{un-lt, bin-lt}
-use Rattle.demand3.proofs.Memory.{Outside, Bytes, length-written, outside-same, read-written, read-outside, written-bytes}
+use Rattle.demand3.proofs.Memory.{Outside, Bytes, outside-same, read-written, read-outside, written-bytes}
 use Rattle.demand3.proofs.Steps.{steps-add, one-step, no-step}
 
 -- memory m is u but for the window of `size` words from word base, which holds ws
@@ -43,7 +44,7 @@ at pc sp f m = place m (record { pc = record { 0 = pc }; sp = record { 0 = sp };
 module _ (base size : ℕ) (u : List ℕ) (short : length u ≤ 65536) where
   written : {m ws : List ℕ} (j v : ℕ) → Window base size u m ws → j < size → v < 2 ^ 32 → Window base size u (setBytes m (4 * (base + j)) 4 v) (set ws j v)
   written {m} {ws} j v W h k = record {
-    same-length = length-written m (4 * (base + j)) 4 v ∙ W .same-length;
+    same-length = length-setBytes m (4 * (base + j)) 4 v ∙ W .same-length;
     words = length-set ws j v ∙ W .words;
     room = W .room;
     outside = λ x o. outside-same m (4 * (base + j)) 4 v x (aside x o) ∙ W .outside x o;

@@ -1,4 +1,7 @@
--- Demand 3: with the page in place, the narrow core follows the wide one.
+-- Demand 3. Take a start with our microcode page in place and any run of n wide steps using core instructions and the twelve
+-- short ones. Say none stops or is refused, none writes to the page, each short one has 16 words free above the page, and
+-- nothing reads a byte left dirty by one. Then the narrow core, as demand 2 defines it, reaches in at most 200 times n steps
+-- the same program counter, stack pointer, immediate flag and every byte that isn't dirty.
 use Prim.Native.Nat.{ℕ, zero, suc, _+_, _*_, _≤_, _<_}
 use mathlib.Core.Path.{_≡_}
 use mathlib.Core.Bool.{Bool, true, false, _||_}

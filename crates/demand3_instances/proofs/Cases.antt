@@ -47,6 +47,8 @@ cases =
     ∷ case 2560 (255 ∷ 61 ∷ []) 2 2050 639 2552
     -- NEQBRANCH loops back twice: 3 is counted down to 0
     ∷ case 2560 (131 ∷ 11 ∷ 255 ∷ 5 ∷ 112 ∷ 252 ∷ 56 ∷ []) 17 2055 639 0
+    -- SUB, its result STOREd at 2112, LOADed again, and kept by a STORESP
+    ∷ case 2560 (133 ∷ 11 ∷ 131 ∷ 49 ∷ 144 ∷ 192 ∷ 12 ∷ 144 ∷ 192 ∷ 8 ∷ 112 ∷ 81 ∷ []) 12 2060 639 2
     -- the printed case of zpurun, up to its BREAK
     ∷ case 4096 (133 ∷ 11 ∷ 131 ∷ 49 ∷ 0 ∷ []) 4 2052 1023 2
     ∷ []

@@ -1,6 +1,6 @@
 -- Demand 3 is not empty: its hypotheses hold of each case, by computation.
 use Prim.Native.Nat.{ℕ, zero, suc, _+_, _-_, _*_, _≤_, _<_}
-use mathlib.Core.Path.{_≡_, refl}
+use mathlib.Core.Path.{_≡_, refl, _∙_}
 use mathlib.Core.Bool.{Bool, true, false, not, _&&_, _||_}
 use mathlib.Core.List.{List, [], _∷_, _++_, map}
 use mathlib.Core.Option.{Option, none, some}
@@ -22,10 +22,12 @@ use Rattle.machine.specs.Run.{Place, steps, goodLength}
 use Rattle.routines.specs.Constants.{pageLength, firstStackWord, freeWords}
 use Rattle.routines.specs.Page.{page}
 use Rattle.routines.proofs.Entries.{In, same-at}
+use Rattle.routines.proofs.Rule.{page-length}
 use Rattle.demand3.specs.Dirt.{Dirt, clean, fetched, wideStep, short, writes, leaves, landed, dirtied}
 use Rattle.demand3.specs.Demand3.{Start, Allowed, AllAllowed, dirtAfter, Run, Reached, Clean, CleanWords, core, instruction}
 use Rattle.routines.proofs.Tests.{both, holds, true-is}
 use Rattle.demand3.proofs.Between.{is-between}
+use Rattle.demand3.proofs.Memory.{read-alike}
 use Rattle.demand3.proofs.Theorem.{demand3}
 use Rattle.demand3_instances.proofs.Cases.{Case, start, cases}
 
@@ -108,10 +110,11 @@ hypotheses c =
     ∷ areBytes (start c .memory)
     ∷ allAllowed (c .count) (start c) clean
     ∷ arrives c (steps Wide (c .count) (start c))
+    ∷ isClean (dirtAfter (c .count) (start c) clean) (4 * c .sp) 4
     ∷ []
 
 all-hold : map (λ c. every (hypotheses c)) cases ≡ map (λ c. true) cases
-unfolding cases page goodLength allAllowed short dirtied leaves steps stepOf effectOf row decode first middle bytes setBytes signed wordOf flipped
+unfolding cases page goodLength allAllowed dirtAfter short dirtied leaves steps stepOf effectOf row decode first middle bytes setBytes signed wordOf flipped
 all-hold = refl
 
 -- from the tests to the hypotheses
@@ -175,10 +178,6 @@ are-bytes [] h a = omega arith
 are-bytes (b ∷ m) h zero = ltb-true b 256 (both (ltb b 256) (areBytes m) h .0)
 are-bytes (b ∷ m) h (suc a) = are-bytes m (both (ltb b 256) (areBytes m) h .1) a
 
-page-length : length page ≡ pageLength
-unfolding page
-page-length = refl
-
 -- what the wide core reaches, and that the narrow core follows there
 pub record Instance (c : Case) : Type 0 where
   pub end : Place
@@ -187,20 +186,28 @@ pub record Instance (c : Case) : Type 0 where
   pub sp : end .state .sp .0 ≡ c .sp
   pub top : word (end .memory) (c .sp) ≡ c .top
   pub follows : Reached (c .count) (start c) end (dirtAfter (c .count) (start c) clean)
+  pub narrow-top : word (follows .end .memory) (c .sp) ≡ c .top
 
-arrived : (c : Case) → Start (start c) → AllAllowed (c .count) (start c) clean
+-- a clean word is the same on both cores
+same-word : {n : ℕ} {p q : Place} {d : Dirt} (f : Reached n p q d) (w : ℕ) → Clean d (4 * w) 4 → word (f .end .memory) w ≡ word (q .memory) w
+unfolding Clean
+same-word {q = q} f w k = read-alike (q .memory) (f .end .memory) (4 * w) 4 (λ j h. f .same-bytes (4 * w + j) (k j h))
+
+arrived : (c : Case) → Start (start c) → AllAllowed (c .count) (start c) clean → Clean (dirtAfter (c .count) (start c) clean) (4 * c .sp) 4
     → (r : Option Place) → steps Wide (c .count) (start c) ≡ r → arrives c r ≡ true → Instance c
-arrived c S F none e h = let z : _≡_ {A = ℕ} 0 1 = cc in absurd (omega arith)
-arrived c S F (some q) e h =
+arrived c S F k none e h = let z : _≡_ {A = ℕ} 0 1 = cc in absurd (omega arith)
+arrived c S F k (some q) e h =
     let r : Run (c .count) (start c) q = record { none-stops = e; all-allowed = F } in
     let t : AllTrue (reached c q) = all-true (reached c q) h in
+    let f : Reached (c .count) (start c) q (dirtAfter (c .count) (start c) clean) = demand3 (c .count) (start c) q S r in
     record {
       end = q;
       run = r;
       counter = eqb-true _ _ (t .0);
       sp = eqb-true _ _ (t .1 .0);
       top = eqb-true _ _ (t .1 .1 .0);
-      follows = demand3 (c .count) (start c) q S r;
+      follows = f;
+      narrow-top = same-word f (c .sp) k ∙ eqb-true _ _ (t .1 .1 .0);
     }
 
 pub instances : {c : Case} → In c cases → Instance c
@@ -212,4 +219,4 @@ instances {c} i =
       bytes = are-bytes (start c .memory) (h .1 .0);
       page-in-place = take-at page (c .program ++ replicate (c .size - pageLength - length (c .program)) 0) pageLength page-length;
     })
-    (are-allowed (c .count) (start c) clean (h .1 .1 .0)) (steps Wide (c .count) (start c)) refl (h .1 .1 .1 .0)
+    (are-allowed (c .count) (start c) clean (h .1 .1 .0)) (is-clean _ _ _ (h .1 .1 .1 .1 .0)) (steps Wide (c .count) (start c)) refl (h .1 .1 .1 .0)

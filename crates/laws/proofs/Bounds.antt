@@ -6,25 +6,26 @@ use native.Mathlib.Omega.{arith}
 use native.Mathlib.Decide.{decLt}
 use lib.ListN.{length}
 use Rattle.memory.specs.Memory.{setBytes}
+use Rattle.memory.proofs.Lengths.{length-setBytes}
 use Rattle.machine.specs.declared.Core.{Core}
 use Rattle.machine.specs.Effects.{Effect, Effect.refuse, Effect.stop, Effect.go, Effect.write}
 use Rattle.machine.specs.Run.{Place, place, Ran, after, runFrom, goodLength, run}
-use Rattle.laws.proofs.Kept.{Within, step-in, length-setBytes}
+use Rattle.laws.proofs.Kept.{Within, step-in}
 use Rattle.laws.proofs.Steps.{effectAt}
 use Rattle.laws.proofs.Turns.{good, run-image, run-start, run-goes}
 
 -- the run ends in memory of length l, its stack pointer inside it
-abbrev Inside : ℕ → Ran → Type 0
-Inside l r = (length (r .place .memory) ≡ l) × (r .place .state .sp .0 ≤ l / 4)
+abbrev pub AtEnd : ℕ → Ran → Type 0
+AtEnd l r = (length (r .place .memory) ≡ l) × (r .place .state .sp .0 ≤ l / 4)
 
-inside : (core : Core) (k n : ℕ) (p : Place) → p .state .sp .0 ≤ length (p .memory) / 4 → Inside (length (p .memory)) (runFrom core k n p)
+pub inside : (core : Core) (k n : ℕ) (p : Place) → p .state .sp .0 ≤ length (p .memory) / 4 → AtEnd (length (p .memory)) (runFrom core k n p)
 unfolding runFrom
 inside core zero n p h = (refl, h)
 inside core (suc k) n p h = by-effect (effectAt core p) (step-in (p .memory) (p .state) h core) (inside core k (n + 1))
   where
     by-effect : (e : Effect) → Within (length (p .memory) / 4) e
-        → ((q : Place) → q .state .sp .0 ≤ length (q .memory) / 4 → Inside (length (q .memory)) (runFrom core k (n + 1) q))
-        → Inside (length (p .memory)) (after e n p (runFrom core k))
+        → ((q : Place) → q .state .sp .0 ≤ length (q .memory) / 4 → AtEnd (length (q .memory)) (runFrom core k (n + 1) q))
+        → AtEnd (length (p .memory)) (after e n p (runFrom core k))
     by-effect (refuse o) w more = (refl, h)
     by-effect (stop t) w more = (refl, w)
     by-effect (go t) w more = more (place (p .memory) t) w

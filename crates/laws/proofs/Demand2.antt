@@ -6,6 +6,7 @@ use native.Mathlib.Nat.{add-zero, zero-add}
 use native.Mathlib.Omega.{arith}
 use lib.ListN.{length}
 use Rattle.memory.specs.Memory.{setBytes}
+use Rattle.memory.proofs.Lengths.{length-setBytes}
 use Rattle.machine.specs.declared.Core.{Core}
 use Rattle.machine.specs.declared.State.{State}
 use Rattle.machine.specs.declared.Outcome.{Outcome}
@@ -14,7 +15,7 @@ use Rattle.machine.specs.Effects.{Effect, Effect.refuse, Effect.stop, Effect.go
 use Rattle.machine.specs.Run.{Place, place, steps, ended, after, runFrom, run}
 use Rattle.laws.specs.Ends.{Admitted, Ends, Ends.by-limit, Ends.by-break, Ends.by-refusal}
 use Rattle.laws.proofs.Steps.{effectAt, steps-add, run-follows}
-use Rattle.laws.proofs.Kept.{Within, step-in, length-setBytes}
+use Rattle.laws.proofs.Kept.{Within, step-in}
 use Rattle.laws.proofs.Turns.{run-goes}
 
 module _ (core : Core) (limit : ℕ) (p : Place) where

@@ -1,13 +1,13 @@
 -- What holds of every step: its refusal is one of FETCH to DIVIDE, and what it leaves has a stack pointer from 0 to W, if it began with one.
 use Prim.Native.Nat.{ℕ, zero, suc, _+_, _-_, _*_, _/_, _%_, _≤_, _<_}
-use mathlib.Core.Path.{_≡_, refl, _∙_}
+use mathlib.Core.Path.{_≡_, refl}
 use mathlib.Core.Bool.{Bool, true, false, cond}
 use mathlib.Core.List.{List, [], _∷_}
 use native.Mathlib.Omega.{arith}
-use lib.ListN.{length, length-set, getD}
+use lib.ListN.{length, getD}
 use lib.Dec.{ltb, leb, eqb}
 use borrow.Author.Tests.{ltb-true, leb-true}
-use Rattle.memory.specs.Memory.{bytes, setBytes, word}
+use Rattle.memory.specs.Memory.{bytes, word}
 use Rattle.machine.specs.declared.Core.{Core}
 use Rattle.machine.specs.declared.State.{State}
 use Rattle.machine.specs.declared.Outcome.{Outcome}
@@ -21,11 +21,6 @@ use Rattle.machine.specs.State.{next, mark, jump}
 use Rattle.machine.specs.Table.{Row, row, size, aligned, extended, reading, put, push, effectOf, stepOf}
 use Rattle.arithmetic.specs.Words.{wrap}
 use Rattle.arithmetic.specs.Operations.{unaryOf, binaryOf, divisionOf}
-
-pub length-setBytes : (m : List ℕ) (a k v : ℕ) → length (setBytes m a k v) ≡ length m
-unfolding setBytes
-length-setBytes m a zero v = refl
-length-setBytes m a (suc k) v = length-set (setBytes m a k (v / 256)) (a + k) (v % 256) ∙ length-setBytes m a k (v / 256)
 
 abbrev pub Within : ℕ → Effect → Type 0
 Within w (refuse o) = 4 ≤ number o

@@ -10,8 +10,12 @@ use Rattle.routines.specs.Page.{page}
 use Rattle.microcode.specs.declared.Laid.{Laid}
 use Rattle.microcode.specs.declared.Laid.the-variants.{Done, TooShort}
 
--- from the image m the answer is r, and m′ is the image then
-abbrev pub Lays : List ℕ → Laid → List ℕ → Type 0
-Lays m r m′ =
-    (r ≡ cond (ltb (length m) pageLength) TooShort Done)
-    × (m′ ≡ cond (ltb (length m) pageLength) m (page ++ drop pageLength m))
+-- the number of an answer: too short for the page is IMAGE's
+abbrev pub number : Laid → ℕ
+number Done = 0
+number TooShort = 2
+
+-- from the image m the answer's number is n, and m′ is the image then
+abbrev pub Lays : List ℕ → ℕ → List ℕ → Type 0
+Lays m n m′ =
+    (n ≡ cond (ltb (length m) pageLength) 2 0) × (m′ ≡ cond (ltb (length m) pageLength) m (page ++ drop pageLength m))

@@ -1,18 +1,17 @@
 // The microcode page, and its laying over an image.
 mod page;
 
-use page::LENGTH;
+pub use page::LENGTH;
 use page::PAGE;
-ghost use Rattle.microcode.specs.Laying.{Lays};
+ghost use Rattle.microcode.specs.Laying.{number, Lays};
 
 pub enum Laid {
     Done,
-    // An image too short for the page is no image for it.
     TooShort,
 }
 
 pub fn lay(image: &mut [u8]) -> Laid
-    ensures { λ r. ⌜ Lays (now (image .entry)) r (now (image .exit)) ⌝ }
+    ensures { λ r. ⌜ Lays (now (image .entry)) (number r) (now (image .exit)) ⌝ }
 {
     if image.len() < LENGTH {
         return Laid::TooShort;

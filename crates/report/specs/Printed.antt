@@ -1,5 +1,5 @@
 -- What zpurun prints of its input.
-use Prim.Native.Nat.{ℕ, _+_, _/_, _%_}
+use Prim.Native.Nat.{ℕ, _+_, _/_, _%_, _*_}
 use mathlib.Core.Path.{_≡_}
 use mathlib.Core.Bool.{Bool, false, cond, _&&_}
 use mathlib.Core.List.{List, [], _∷_, _++_}
@@ -9,13 +9,13 @@ use Rattle.machine.specs.declared.Core.{Core}
 use Rattle.machine.specs.declared.Core.the-variants.{Narrow, Wide}
 use Rattle.machine.specs.declared.State.{State}
 use Rattle.machine.specs.Run.{place, Ran, run}
-use Rattle.routines.specs.Constants.{pageLength}
+use Rattle.routines.specs.Constants.{pageLength, stepBound}
 use Rattle.routines.specs.Page.{page}
 use Rattle.report.specs.Lines.{line, lineFeed}
 
 -- the bytes of an image that is run, at least and at most
 abbrev pub shortest : ℕ
-shortest = 2052
+shortest = pageLength + 4
 
 abbrev pub longest : ℕ
 longest = 16384
@@ -25,7 +25,7 @@ abbrev pub wideLimit : ℕ
 wideLimit = 1000
 
 abbrev pub narrowLimit : ℕ
-narrowLimit = 200000
+narrowLimit = stepBound * wideLimit
 
 -- the sizes that are run
 unfoldable pub runs : ℕ → Bool

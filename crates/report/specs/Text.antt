@@ -9,6 +9,10 @@ use lib.Seq.{sets}
 abbrev pub Puts : List ℕ → ℕ → List ℕ → ℕ → List ℕ → Type 0
 Puts t a m r m′ = (r ≡ a + length t) × (m′ ≡ sets m a t)
 
+-- the name of a core takes no more
+abbrev pub nameRoom : ℕ
+nameRoom = 6
+
 -- a blank and a number of 32 bits take no more
 abbrev pub fieldRoom : ℕ
 fieldRoom = 11

@@ -9,12 +9,12 @@ ghost use Prim.Native.Nat.{_+_, _≤_};
 ghost use Rattle.machine.specs.Run.{told};
 ghost use Rattle.report.specs.Decimal.{decimal};
 ghost use Rattle.report.specs.Lines.{name, blank, top, line};
-ghost use Rattle.report.specs.Text.{Puts, Room, Inside, fieldRoom, lineRoom};
+ghost use Rattle.report.specs.Text.{Puts, Room, Inside, nameRoom, fieldRoom, lineRoom};
 
 fn name(out: &mut [u8], at: usize, core: Core) -> usize
-    requires { ⌜ Room 6 at (now out) ⌝ }
+    requires { ⌜ Room nameRoom at (now out) ⌝ }
     ensures { λ r. ⌜ Puts (name core) at (now (out .entry)) r (now (out .exit)) ⌝ }
-    ensures { λ r. ⌜ r ≤ at + 6 ⌝ }
+    ensures { λ r. ⌜ r ≤ at + nameRoom ⌝ }
 {
     match core {
         Core::Narrow => text::letters(out, at, b"narrow"),

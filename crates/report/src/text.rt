@@ -3,7 +3,7 @@ ghost use mathlib.Core.Path.{_≡_};
 ghost use mathlib.Core.List.{[], _∷_};
 ghost use Prim.Native.Nat.{_+_, _<_, _≤_};
 ghost use lib.ListN.{length};
-ghost use Rattle.report.specs.Decimal.{decimal};
+ghost use Rattle.report.specs.Decimal.{digit, decimal};
 ghost use Rattle.report.specs.Text.{Puts};
 
 pub(crate) fn byte(out: &mut [u8], at: usize, b: u8) -> usize
@@ -30,7 +30,7 @@ pub(crate) fn letters(out: &mut [u8], at: usize, word: &[u8]) -> usize
 
 fn digit(d: u32) -> u8
     requires { ⌜ d < 10 ⌝ }
-    ensures { λ r. ⌜ r ≡ 48 + d ⌝ }
+    ensures { λ r. ⌜ r ≡ digit d ⌝ }
 {
     48 + d as u8
 }

@@ -30,9 +30,9 @@ at-each f [] e x h = absurd (not-suc-le-zero h)
 at-each f (b ∷ bs) e zero h = both (f b) (every f bs) e .0
 at-each f (b ∷ bs) e (suc x) h = at-each f bs (both (f b) (every f bs) e .1) x (le-of-suc-le-suc h)
 
+pub page-length : length page ≡ pageLength
+page-length = unfold page in refl
+
 -- the rule at each byte
 pub page-rule : (x : ℕ) → x < pageLength → permitted (getD page x 0) ≡ true
 page-rule x h = at-each permitted page rule x (rw page-length h)
-  where
-    page-length : length page ≡ pageLength
-    page-length = unfold page in refl

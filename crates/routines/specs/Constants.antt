@@ -1,5 +1,5 @@
 -- The numbers of the page and of demand 3, each in one place.
-use Prim.Native.Nat.{ℕ}
+use Prim.Native.Nat.{ℕ, _/_}
 
 -- the bytes of the page
 abbrev pub pageLength : ℕ
@@ -7,7 +7,7 @@ pageLength = 2048
 
 -- the first word above the page
 abbrev pub firstStackWord : ℕ
-firstStackWord = 512
+firstStackWord = pageLength / 4
 
 -- the words directly below sp that a short instruction has free
 abbrev pub freeWords : ℕ

@@ -1,5 +1,5 @@
 -- The routine of each short instruction: a line has a byte and the instruction that it is.
--- The comments say what the stack holds above the return address ret, below which lie A and B; r is the result.
+-- A comment is what the routine has pushed by then, the top last; ret, the return address, A and B are under it. r is the result.
 use Prim.Native.Nat.{ℕ}
 use mathlib.Core.List.{List, [], _∷_}
 use Rattle.arithmetic.specs.declared.UnOp.the-variants.{Not, Flip}
@@ -127,7 +127,7 @@ uLessThanOrEqual =
     ∷ (4, POPPC)  -- goes to ret
     ∷ []
 
--- 45 CALL: the return address goes under A, and A is left for
+-- 45 CALL: the return address takes the place of A, and A is where it goes
 abbrev pub call : List Line
 call =
     (113, LOADSP 1)  -- A

@@ -3,8 +3,9 @@ use Prim.Native.Nat.{ℕ}
 use mathlib.Core.Path.{_≡_, sym, _∙_}
 use mathlib.Core.List.{List}
 use Rattle.machine.specs.Run.{Ran}
+use Rattle.microcode.specs.Laying.{Lays}
 use Rattle.zpu_c.specs.declared.CEnd.{CEnd}
-use Rattle.zpu_c.specs.Values.{Tells, TellsLaid}
+use Rattle.zpu_c.specs.Values.{Tells}
 
 pub one-end : (r : Ran) (e f : CEnd) (m n : List ℕ) → Tells e m r → Tells f n r → (e ≡ f) × (m ≡ n)
 one-end r e f m n h k = (
@@ -31,5 +32,5 @@ one-end r e f m n h k = (
     same-flag : e .state .flag ≡ f .state .flag
     same-flag = h .flag ∙ sym (k .flag)
 
-pub one-page : (r q : ℕ) (m n o : List ℕ) → TellsLaid r m n → TellsLaid q m o → (r ≡ q) × (n ≡ o)
-one-page r q m n o h k = (h .answer ∙ sym (k .answer), h .image ∙ sym (k .image))
+pub one-page : (r q : ℕ) (m n o : List ℕ) → Lays m r n → Lays m q o → (r ≡ q) × (n ≡ o)
+one-page r q m n o h k = (h .0 ∙ sym (k .0), h .1 ∙ sym (k .1))

@@ -2,15 +2,12 @@
 use Prim.Native.Nat.{ℕ}
 use mathlib.Core.Path.{_≡_}
 use mathlib.Core.Bool.{cond, not}
-use mathlib.Core.List.{List, _++_}
-use lib.ListN.{length, drop}
-use lib.Dec.{eqb, ltb}
+use mathlib.Core.List.{List}
+use lib.Dec.{eqb}
 use Rattle.machine.specs.declared.Core.{Core}
 use Rattle.machine.specs.declared.Core.the-variants.{Narrow, Wide}
 use Rattle.machine.specs.declared.State.{State}
 use Rattle.machine.specs.Run.{Ran, place}
-use Rattle.routines.specs.Constants.{pageLength}
-use Rattle.routines.specs.Page.{page}
 use Rattle.zpu_c.specs.declared.CState.{CState}
 use Rattle.zpu_c.specs.declared.CEnd.{CEnd}
 
@@ -34,8 +31,3 @@ pub record Tells (e : CEnd) (m : List ℕ) (r : Ran) : Type 0 where
   pub sp : e .state .sp ≡ r .place .state .sp .0
   pub flag : e .state .flag ≡ flagOf (r .place .state)
   pub image : m ≡ r .place .memory
-
--- 0 where the page was laid over the image, and 2 where the image is too short for it and untouched
-pub record TellsLaid (r : ℕ) (m m′ : List ℕ) : Type 0 where
-  pub answer : r ≡ cond (ltb (length m) pageLength) 2 0
-  pub image : m′ ≡ cond (ltb (length m) pageLength) m (page ++ drop pageLength m)

@@ -7,7 +7,8 @@ use microcode::Laid;
 ghost use mathlib.Core.Path.{_≡_};
 ghost use Prim.Native.Nat.{ℕ, _^_, _<_};
 ghost use Rattle.machine.specs.Run.{place, run};
-ghost use Rattle.zpu_c.specs.Values.{coreOf, stateOf, flagOf, Tells, TellsLaid};
+ghost use Rattle.zpu_c.specs.Values.{coreOf, stateOf, flagOf, Tells};
+ghost use Rattle.microcode.specs.Laying.{Lays};
 
 #[repr(C)]
 pub struct CState {
@@ -72,7 +73,7 @@ pub extern "C" fn zpu_step(image: &mut [u8], start: CState, core: u32) -> CEnd
 
 #[no_mangle]
 pub extern "C" fn zpu_page(image: &mut [u8]) -> u32
-    ensures { λ r. ⌜ TellsLaid r (now (image .entry)) (now (image .exit)) ⌝ }
+    ensures { λ r. ⌜ Lays (now (image .entry)) r (now (image .exit)) ⌝ }
 {
     let laid = microcode::lay(image);
     match laid {

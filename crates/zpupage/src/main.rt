@@ -2,7 +2,7 @@
 use libc::STDOUT_FILENO;
 
 fn main() {
-    let mut page = [0u8; 2048];
+    let mut page = [0u8; microcode::LENGTH];
     microcode::lay(&mut page);
     io::write_all(STDOUT_FILENO, &page);
 }

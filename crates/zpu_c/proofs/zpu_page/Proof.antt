@@ -1,9 +1,6 @@
-use lib.ListN.{length}
-use lib.Dec.{ltb}
-use Rattle.routines.specs.Constants.{pageLength}
 use mathlib.Core.Path.{sym, ap, _∙_}
-use Rattle.zpu_c.proofs.Laying.{answer, answered}
 use borrow.Author.Needs.{needs}
+use Rattle.microcode.specs.Laying.{number}
 use Rattle.zpu_c.proofs.zpu_page.Statement.{statement}
 use Rattle.zpu_c.proofs.zpu_page.Tie as tie
 
@@ -22,7 +19,7 @@ same-length c = search needs
 returns : tie.Need-returns
 returns c =
     let l = c .before .before .before .before .lay in
-    record { answer = sym (ap answer (c .enum-told .given .1)) ∙ answered (ltb (length (c .before .before .before .before .before .before .before .args .image .now)) pageLength) (l .result) (l .ensures .0); image = l .ensures .1 }
+    (sym (ap number (c .enum-told .given .1)) ∙ l .ensures .0, l .ensures .1)
 
 same-length-2 : tie.Need-same-length-2
 same-length-2 c = search needs
@@ -30,7 +27,7 @@ same-length-2 c = search needs
 returns-2 : tie.Need-returns-2
 returns-2 c =
     let l = c .before .before .before .before .lay in
-    record { answer = sym (ap answer (c .enum-told2 .given .1)) ∙ answered (ltb (length (c .before .before .before .before .before .before .before .args .image .now)) pageLength) (l .result) (l .ensures .0); image = l .ensures .1 }
+    (sym (ap number (c .enum-told2 .given .1)) ∙ l .ensures .0, l .ensures .1)
 
 pub zpu-page-spec : {M : Type 1} → statement M
 zpu-page-spec =

@@ -22,11 +22,15 @@ use Rattle.report.proofs.text.+number.Tie.{close}
 abbrev μ-number : Measures 1 number-kinds.ps ℕ
 μ-number κs a = a .1 .1 .0
 
+-- what `number` is given at the measure t, and what a call of it asks below t
 abbrev number-at : ℕ → In 1 number-kinds.ps
 number-at t = and 1 number-kinds.ps (is 1 number-kinds.ps μ-number t) number.Pre
 
 abbrev number-below : ℕ → In 1 number-kinds.ps
 number-below t = and 1 number-kinds.ps (falls 1 number-kinds.ps _<_ μ-number t) number.Pre
+
+abbrev claims : ℕ → number-lts.Claims
+claims t = (digit-reads.Asked, digit-reads.Learnt, byte-reads.Asked, byte-reads.Learnt, number-below t, number.Post)
 
 -- more digits than one: those before the last fit where all fit
 shorter : (n : ℕ) → 10 ≤ n → length (decimal n) ≡ length (decimal (n / 10)) + 1
@@ -40,112 +44,43 @@ module _ (n b a : ℕ) (m : List ℕ) where
       → Puts (decimal n) a m q m″
   more h e p l = rw (more-digits n h, ← e) (puts-then (decimal (n / 10)) (b ∷ []) a m p l)
 
-number-digit-requires : (t : ℕ) → number-lts.Need-digit-requires (
-  digit-reads.Asked,
-  digit-reads.Learnt,
-  byte-reads.Asked,
-  byte-reads.Learnt,
-  number-below t,
-  number.Post,
-) (number-at t) number.Post
+number-digit-requires : (t : ℕ) → number-lts.Need-digit-requires (claims t) (number-at t) number.Post
 number-digit-requires t c κs = c .before .if1 .taken
 
-number-byte-requires : (t : ℕ) → number-lts.Need-byte-requires (
-  digit-reads.Asked,
-  digit-reads.Learnt,
-  byte-reads.Asked,
-  byte-reads.Learnt,
-  number-below t,
-  number.Post,
-) (number-at t) number.Post
+number-byte-requires : (t : ℕ) → number-lts.Need-byte-requires (claims t) (number-at t) number.Post
 number-byte-requires t c κs = omega (arith, ap length (one-digit (c .before .before .before .before .args .n) (c .before .before .if1 .taken)))
 
-number-same-length : (t : ℕ) → number-lts.Need-same-length (
-  digit-reads.Asked,
-  digit-reads.Learnt,
-  byte-reads.Asked,
-  byte-reads.Learnt,
-  number-below t,
-  number.Post,
-) (number-at t) number.Post
+number-same-length : (t : ℕ) → number-lts.Need-same-length (claims t) (number-at t) number.Post
 number-same-length t c = search needs
 
-number-returns : (t : ℕ) → number-lts.Need-returns (
-  digit-reads.Asked,
-  digit-reads.Learnt,
-  byte-reads.Asked,
-  byte-reads.Learnt,
-  number-below t,
-  number.Post,
-) (number-at t) number.Post
+number-returns : (t : ℕ) → number-lts.Need-returns (claims t) (number-at t) number.Post
 number-returns t c =
     let a = c .before .before .before .before .before .before .before .args in
     one (a .n) (c .before .before .before .digit .result) (a .at) (a .out .now) (c .before .before .before .before .before .if1 .taken) (c .before .before .before .digit .ensures) (c .before .before .byte .ensures)
 
-number-number-requires : (t : ℕ) → number-lts.Need-number-requires (
-  digit-reads.Asked,
-  digit-reads.Learnt,
-  byte-reads.Asked,
-  byte-reads.Learnt,
-  number-below t,
-  number.Post,
-) (number-at t) number.Post
+number-number-requires : (t : ℕ) → number-lts.Need-number-requires (claims t) (number-at t) number.Post
 number-number-requires t c κs =
     let s = c .before .before .before in (omega (arith, s .pre .0), omega (arith, s .pre .1, shorter (s .args .n) (c .before .if1 .left)))
 
-number-digit-requires-2 : (t : ℕ) → number-lts.Need-digit-requires-2 (
-  digit-reads.Asked,
-  digit-reads.Learnt,
-  byte-reads.Asked,
-  byte-reads.Learnt,
-  number-below t,
-  number.Post,
-) (number-at t) number.Post
+number-digit-requires-2 : (t : ℕ) → number-lts.Need-digit-requires-2 (claims t) (number-at t) number.Post
 number-digit-requires-2 t c κs = omega arith
 
-number-byte-requires-2 : (t : ℕ) → number-lts.Need-byte-requires-2 (
-  digit-reads.Asked,
-  digit-reads.Learnt,
-  byte-reads.Asked,
-  byte-reads.Learnt,
-  number-below t,
-  number.Post,
-) (number-at t) number.Post
+number-byte-requires-2 : (t : ℕ) → number-lts.Need-byte-requires-2 (claims t) (number-at t) number.Post
 number-byte-requires-2 t c κs =
     let s = c .before .before .before .before .before .before .before .before in
     omega (arith, s .pre .1, shorter (s .args .n) (c .before .before .before .before .before .before .if1 .left), c .before .before .before .before .number .ensures .0)
 
-number-same-length-2 : (t : ℕ) → number-lts.Need-same-length-2 (
-  digit-reads.Asked,
-  digit-reads.Learnt,
-  byte-reads.Asked,
-  byte-reads.Learnt,
-  number-below t,
-  number.Post,
-) (number-at t) number.Post
+number-same-length-2 : (t : ℕ) → number-lts.Need-same-length-2 (claims t) (number-at t) number.Post
 number-same-length-2 t c = search needs
 
-number-returns-2 : (t : ℕ) → number-lts.Need-returns-2 (
-  digit-reads.Asked,
-  digit-reads.Learnt,
-  byte-reads.Asked,
-  byte-reads.Learnt,
-  number-below t,
-  number.Post,
-) (number-at t) number.Post
+number-returns-2 : (t : ℕ) → number-lts.Need-returns-2 (claims t) (number-at t) number.Post
 number-returns-2 t c =
     let a = c .before .before .before .before .before .before .before .before .before .before .before .args in
     more (a .n) (c .before .before .before .digit2 .result) (a .at) (a .out .now) (c .before .before .before .before .before .before .before .before .before .if1 .left) (c .before .before .before .digit2 .ensures) (c .before .before .before .before .before .before .before .number .ensures) (c .before .before .byte2 .ensures)
 
 pub +number-spec : {M : Type 1} → statement M
-+number-spec = close μ-number λ t. number-lts.spec (
-  digit-reads.Asked,
-  digit-reads.Learnt,
-  byte-reads.Asked,
-  byte-reads.Learnt,
-  number-below t,
-  number.Post,
-)
++number-spec = close μ-number λ t. number-lts.spec
+    (claims t)
     (number-at t)
     number.Post
     (number-digit-requires t)
