@@ -52,49 +52,49 @@ same-length : tie.Need-same-length
 same-length c = search needs
 
 returns-2 : tie.Need-returns-2
-returns-2 c = rw (c .before .before .before .before .match .keys2) ((cc), (cc))
+returns-2 c = rw (c .before .before .before .before .match .keys2) (c .before .before .pushsp .ensures)
 
 same-length-2 : tie.Need-same-length-2
 same-length-2 c = search needs
 
 returns-3 : tie.Need-returns-3
-returns-3 c = rw (c .before .before .match .keys3) ((cc), (cc))
+returns-3 c = rw (c .before .before .match .keys3) (c .poppc .ensures)
 
 same-length-3 : tie.Need-same-length-3
 same-length-3 c = search needs
 
 returns-4 : tie.Need-returns-4
-returns-4 c = rw (c .before .before .before .before .match .keys4) ((cc), (cc))
+returns-4 c = rw (c .before .before .before .before .match .keys4) (c .before .before .binary .ensures)
 
 same-length-4 : tie.Need-same-length-4
 same-length-4 c = search needs
 
 returns-5 : tie.Need-returns-5
-returns-5 c = rw (c .before .before .before .before .match .keys5) ((cc), (cc))
+returns-5 c = rw (c .before .before .before .before .match .keys5) (c .before .before .binary2 .ensures)
 
 same-length-5 : tie.Need-same-length-5
 same-length-5 c = search needs
 
 returns-6 : tie.Need-returns-6
-returns-6 c = rw (c .before .before .before .before .match .keys6) ((cc), (cc))
+returns-6 c = rw (c .before .before .before .before .match .keys6) (c .before .before .binary3 .ensures)
 
 same-length-6 : tie.Need-same-length-6
 same-length-6 c = search needs
 
 returns-7 : tie.Need-returns-7
-returns-7 c = rw (c .before .before .before .before .match .keys7) ((cc), (cc))
+returns-7 c = rw (c .before .before .before .before .match .keys7) (c .before .before .load .ensures)
 
 same-length-7 : tie.Need-same-length-7
 same-length-7 c = search needs
 
 returns-8 : tie.Need-returns-8
-returns-8 c = rw (c .before .before .before .before .match .keys8) ((cc), (cc))
+returns-8 c = rw (c .before .before .before .before .match .keys8) (c .before .before .unary .ensures)
 
 same-length-8 : tie.Need-same-length-8
 same-length-8 c = search needs
 
 returns-9 : tie.Need-returns-9
-returns-9 c = rw (c .before .before .before .before .match .keys9) ((cc), (cc))
+returns-9 c = rw (c .before .before .before .before .match .keys9) (c .before .before .unary2 .ensures)
 
 returns-10 : tie.Need-returns-10
 unfolding effectOf row
@@ -104,13 +104,13 @@ same-length-9 : tie.Need-same-length-9
 same-length-9 c = search needs
 
 returns-11 : tie.Need-returns-11
-returns-11 c = rw (c .before .before .before .before .match .keys11) ((cc), (cc))
+returns-11 c = rw (c .before .before .before .before .match .keys11) (c .before .before .store .ensures)
 
 same-length-10 : tie.Need-same-length-10
 same-length-10 c = search needs
 
 returns-12 : tie.Need-returns-12
-returns-12 c = rw (c .before .before .match .keys12) ((cc), (cc))
+returns-12 c = rw (c .before .before .match .keys12) (c .popsp .ensures)
 
 returns-13 : tie.Need-returns-13
 unfolding effectOf row

@@ -31,35 +31,35 @@ same-length c = search needs
 
 returns : tie.Need-returns
 unfolding decode
-returns c = let a = c .before .before .before .before .before .before .args in simp (lt-ltb (a .byte) 32 (omega arith)) ((cc), (cc))
+returns c = let a = c .before .before .before .before .before .before .args in simp (lt-ltb (a .byte) 32 (omega arith)) (c .before .before .first .ensures)
 
 same-length-2 : tie.Need-same-length-2
 same-length-2 c = search needs
 
 returns-2 : tie.Need-returns-2
 unfolding decode
-returns-2 c = let a = c .before .before .before .before .before .before .args in simp (le-ltb (a .byte) 32 (omega arith), lt-ltb (a .byte) 64 (omega arith)) ((cc), (cc))
+returns-2 c = let a = c .before .before .before .before .before .before .args in simp (le-ltb (a .byte) 32 (omega arith), lt-ltb (a .byte) 64 (omega arith)) (c .before .before .middle .ensures)
 
 same-length-3 : tie.Need-same-length-3
 same-length-3 c = search needs
 
 returns-3 : tie.Need-returns-3
 unfolding decode
-returns-3 c = let a = c .before .before .before .before .before .before .before .args in simp (le-ltb (a .byte) 32 (omega arith), le-ltb (a .byte) 64 (omega arith), lt-ltb (a .byte) 96 (omega arith)) ((cc), (cc))
+returns-3 c = let a = c .before .before .before .before .before .before .before .args in simp (le-ltb (a .byte) 32 (omega arith), le-ltb (a .byte) 64 (omega arith), lt-ltb (a .byte) 96 (omega arith)) (rw (c .before .before .before .inverted .ensures) at (c .before .before .storesp .ensures))
 
 same-length-4 : tie.Need-same-length-4
 same-length-4 c = search needs
 
 returns-4 : tie.Need-returns-4
 unfolding decode
-returns-4 c = let a = c .before .before .before .before .before .before .before .args in simp (le-ltb (a .byte) 32 (omega arith), le-ltb (a .byte) 64 (omega arith), le-ltb (a .byte) 96 (omega arith), lt-ltb (a .byte) 128 (omega arith)) ((cc), (cc))
+returns-4 c = let a = c .before .before .before .before .before .before .before .args in simp (le-ltb (a .byte) 32 (omega arith), le-ltb (a .byte) 64 (omega arith), le-ltb (a .byte) 96 (omega arith), lt-ltb (a .byte) 128 (omega arith)) (rw (c .before .before .before .inverted2 .ensures) at (c .before .before .loadsp .ensures))
 
 same-length-5 : tie.Need-same-length-5
 same-length-5 c = search needs
 
 returns-5 : tie.Need-returns-5
 unfolding decode
-returns-5 c = let a = c .before .before .before .before .before .before .args in simp (le-ltb (a .byte) 32 (omega arith), le-ltb (a .byte) 64 (omega arith), le-ltb (a .byte) 96 (omega arith), le-ltb (a .byte) 128 (omega arith)) ((cc), (cc))
+returns-5 c = let a = c .before .before .before .before .before .before .args in simp (le-ltb (a .byte) 32 (omega arith), le-ltb (a .byte) 64 (omega arith), le-ltb (a .byte) 96 (omega arith), le-ltb (a .byte) 128 (omega arith)) (c .before .before .im .ensures)
 
 pub carry-out-spec : {M : Type 1} → statement M
 carry-out-spec =

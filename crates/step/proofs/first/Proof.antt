@@ -16,14 +16,14 @@ same-length c = search needs
 
 returns : tie.Need-returns
 unfolding first
-returns c = let a = c .before .before .before .before .before .before .args in simp (lt-ltb (a .byte) 16 (omega arith)) ((cc), (cc))
+returns c = let a = c .before .before .before .before .before .before .args in simp (lt-ltb (a .byte) 16 (omega arith)) (c .before .before .low .ensures)
 
 same-length-2 : tie.Need-same-length-2
 same-length-2 c = search needs
 
 returns-2 : tie.Need-returns-2
 unfolding first
-returns-2 c = let a = c .before .before .before .before .before .before .args in simp (le-ltb (a .byte) 16 (omega arith)) ((cc), (cc))
+returns-2 c = let a = c .before .before .before .before .before .before .args in simp (le-ltb (a .byte) 16 (omega arith)) (c .before .before .addsp .ensures)
 
 pub first-spec : {M : Type 1} → statement M
 first-spec =

@@ -23,14 +23,14 @@ same-length c = search needs
 
 returns : tie.Need-returns
 unfolding middle
-returns c = rw (c .before .before .before .before .enum-told .given .1) ((cc), (cc))
+returns c = rw (c .before .before .before .before .enum-told .given .1) (c .before .before .emulate .ensures)
 
 same-length-2 : tie.Need-same-length-2
 same-length-2 c = search needs
 
 returns-2 : tie.Need-returns-2
 unfolding middle
-returns-2 c = rw (c .before .before .before .before .enum-told2 .given .1) ((cc), (cc))
+returns-2 c = rw (c .before .before .before .before .enum-told2 .given .1) (c .before .before .wide .ensures)
 
 pub middle-spec : {M : Type 1} → statement M
 middle-spec =

@@ -25,7 +25,7 @@ same-length c = search needs
 
 returns-2 : tie.Need-returns-2
 unfolding stepOf
-returns-2 c = let a = c .before .before .before .before .before .before .before .before .args in simp (lt-ltb (a .s .pc .0) (length (a .image .now)) (omega arith)) ((cc), (cc))
+returns-2 c = let a = c .before .before .before .before .before .before .before .before .args in simp (lt-ltb (a .s .pc .0) (length (a .image .now)) (omega arith)) (c .before .before .carry-out .ensures)
 
 pub step-spec : {M : Type 1} → statement M
 step-spec =
