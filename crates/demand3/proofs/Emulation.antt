@@ -2,7 +2,7 @@
 use Prim.Native.Nat.{ℕ, zero, suc, _+_, _-_, _*_, _/_, _^_, _≤_, _<_}
 use mathlib.Core.Path.{_≡_, refl, sym, ap, _∙_, subst}
 use mathlib.Core.Logic.{inl, inr}
-use mathlib.Core.Bool.{Bool, true, false, cond}
+use mathlib.Core.Bool.{Bool, true, false, cond, _&&_}
 use mathlib.Core.List.{List}
 use mathlib.Core.Option.{some}
 use native.Mathlib.Nat.{not-suc-le-zero, le-of-suc-le-suc}
@@ -53,8 +53,10 @@ module _ {o : Short} (member : In o shorts) where
   fits-at : (vector (o .byte) + length (code o) ≤ pageLength) × (suc (length (code o)) ≤ stepBound)
   fits-at =
       let h : fitting o ≡ true = same-at fitting (λ o. true) shorts fits member in
-      let (x, y) = both (leb (vector (o .byte) + length (code o)) pageLength) (leb (suc (length (code o))) stepBound) h in
-      (leb-true _ _ x, leb-true _ _ y)
+      let (xy, z) =
+      both (leb (vector (o .byte) + length (code o)) pageLength && leb (suc (length (code o))) (o .bound)) (leb (o .bound) stepBound) h in
+      let (x, y) = both (leb (vector (o .byte) + length (code o)) pageLength) (leb (suc (length (code o))) (o .bound)) xy in
+      (leb-true _ _ x, omega (arith, leb-true (suc (length (code o))) (o .bound) y, leb-true (o .bound) stepBound z))
 
   page-code : (m : List ℕ) → Paged m → Code m (vector (o .byte)) (code o)
   unfolding decode first

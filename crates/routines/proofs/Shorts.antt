@@ -33,9 +33,10 @@ pub emulated : map (λ o. decode Narrow (o .byte)) shorts ≡ map (λ o. EMULATE
 unfolding decode middle
 emulated = refl
 
--- each ends in the page, and within the bound with EMULATE
+-- each ends in the page, and with EMULATE within its own bound, which is within the page's
 abbrev pub fitting : Short → Bool
-fitting o = leb (vector (o .byte) + length (code o)) pageLength && leb (suc (length (code o))) stepBound
+fitting o =
+    leb (vector (o .byte) + length (code o)) pageLength && leb (suc (length (code o))) (o .bound) && leb (o .bound) stepBound
 
 pub fits : map fitting shorts ≡ map (λ o. true) shorts
 fits = refl

@@ -14,7 +14,8 @@ use Rattle.routines.specs.Constants.{pageLength}
 use Rattle.routines.specs.Routines.{Line, lessThan, lessThanOrEqual, uLessThan, uLessThanOrEqual, call, eq, neq, neg, sub, xor, neqBranch, pushSpAdd}
 
 -- a short instruction: the words that it reads, how many of them it pops off, where it goes from the counter, A and B,
--- and what it leaves on top (nothing, if it pops all that it reads) from the counter, sp, A and B
+-- what it leaves on top (nothing, if it pops all that it reads) from the counter, sp, A and B, its routine, and the narrow
+-- steps that it takes at most, EMULATE among them
 pub record Short : Type 0 where
   pub byte : ℕ
   pub operands : ℕ
@@ -22,36 +23,37 @@ pub record Short : Type 0 where
   pub target : ℕ → ℕ → ℕ → ℕ
   pub value : ℕ → ℕ → ℕ → ℕ → ℕ
   pub lines : List Line
+  pub bound : ℕ
 
 abbrev pub onward : ℕ → ℕ → ℕ → ℕ
 onward c a b = wrap (c + 1)
 
 -- pops two, pushes one
-abbrev twoToOne : ℕ → BinOp → List Line → Short
-twoToOne b op l = record { byte = b; operands = 2; popped = 1; target = onward; value = λ c s x y. binaryOf op x y; lines = l }
+abbrev twoToOne : ℕ → BinOp → List Line → ℕ → Short
+twoToOne b op l n = record { byte = b; operands = 2; popped = 1; target = onward; value = λ c s x y. binaryOf op x y; lines = l; bound = n }
 
 -- pops two
-abbrev twoToNone : ℕ → (ℕ → ℕ → ℕ → ℕ) → List Line → Short
-twoToNone b t l = record { byte = b; operands = 2; popped = 2; target = t; value = λ c s x y. 0; lines = l }
+abbrev twoToNone : ℕ → (ℕ → ℕ → ℕ → ℕ) → List Line → ℕ → Short
+twoToNone b t l n = record { byte = b; operands = 2; popped = 2; target = t; value = λ c s x y. 0; lines = l; bound = n }
 
 -- changes the top
-abbrev oneToOne : ℕ → (ℕ → ℕ → ℕ → ℕ) → (ℕ → ℕ → ℕ → ℕ → ℕ) → List Line → Short
-oneToOne b t v l = record { byte = b; operands = 1; popped = 0; target = t; value = v; lines = l }
+abbrev oneToOne : ℕ → (ℕ → ℕ → ℕ → ℕ) → (ℕ → ℕ → ℕ → ℕ → ℕ) → List Line → ℕ → Short
+oneToOne b t v l n = record { byte = b; operands = 1; popped = 0; target = t; value = v; lines = l; bound = n }
 
 abbrev pub shorts : List Short
 shorts =
-    twoToOne 36 LessThan lessThan
-    ∷ twoToOne 37 LessThanOrEqual lessThanOrEqual
-    ∷ twoToOne 38 ULessThan uLessThan
-    ∷ twoToOne 39 ULessThanOrEqual uLessThanOrEqual
-    ∷ oneToOne 45 (λ c x y. x) (λ c s x y. wrap (c + 1)) call
-    ∷ twoToOne 46 Eq eq
-    ∷ twoToOne 47 Neq neq
-    ∷ oneToOne 48 onward (λ c s x y. unaryOf Neg x) neg
-    ∷ twoToOne 49 Sub sub
-    ∷ twoToOne 50 Xor xor
-    ∷ twoToNone 56 (λ c x y. cond (eqb y 0) (wrap (c + 1)) (wrap (c + x))) neqBranch
-    ∷ oneToOne 61 onward (λ c s x y. wrap (4 * s + 4 * x)) pushSpAdd
+    twoToOne 36 LessThan lessThan 23
+    ∷ twoToOne 37 LessThanOrEqual lessThanOrEqual 21
+    ∷ twoToOne 38 ULessThan uLessThan 22
+    ∷ twoToOne 39 ULessThanOrEqual uLessThanOrEqual 21
+    ∷ oneToOne 45 (λ c x y. x) (λ c s x y. wrap (c + 1)) call 6
+    ∷ twoToOne 46 Eq eq 18
+    ∷ twoToOne 47 Neq neq 17
+    ∷ oneToOne 48 onward (λ c s x y. unaryOf Neg x) neg 7
+    ∷ twoToOne 49 Sub sub 9
+    ∷ twoToOne 50 Xor xor 15
+    ∷ twoToNone 56 (λ c x y. cond (eqb y 0) (wrap (c + 1)) (wrap (c + x))) neqBranch 21
+    ∷ oneToOne 61 onward (λ c s x y. wrap (4 * s + 4 * x)) pushSpAdd 10
     ∷ []
 
 abbrev pub bytesOf : List Line → List ℕ
