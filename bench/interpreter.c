@@ -121,12 +121,11 @@ static inline uint32_t emulate(machine *m, uint32_t byte)
 
 static inline uint32_t flip(uint32_t a)
 {
-    uint32_t flipped = 0;
-    for (int k = 0; k < 32; k++) {
-        flipped = flipped << 1 | (a & 1);
-        a >>= 1;
-    }
-    return flipped;
+    a = (a >> 1 & 0x55555555) | (a & 0x55555555) << 1;
+    a = (a >> 2 & 0x33333333) | (a & 0x33333333) << 2;
+    a = (a >> 4 & 0x0f0f0f0f) | (a & 0x0f0f0f0f) << 4;
+    a = (a >> 8 & 0x00ff00ff) | (a & 0x00ff00ff) << 8;
+    return a >> 16 | a << 16;
 }
 
 /* LOAD, LOADH and LOADB: 4, 2 and 1 bytes. */

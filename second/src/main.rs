@@ -2,7 +2,9 @@
 //!
 //! It is written from document 01 alone and shares nothing with the product that it checks: it
 //! has its own machine, its own reckoning of dirt and its own cases, and it meets the product
-//! only through the C boundary of `libzpu_c.a` and the printed lines of `zpurun`.
+//! only through the C boundary of `libzpu_c.a` and the printed lines of `zpurun`. Where document
+//! 01 leaves a matter open it takes the reading that docs/DECISIONS.md settles, so on those it is
+//! a check of the code and not of the reading.
 //!
 //! `ZPU_LIB_DIR` at build time names the folder of `libzpu_c.a`; without it the program checks
 //! its own machine. `ZPURUN` at run time names the `zpurun` executable.
