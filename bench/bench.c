@@ -1,4 +1,7 @@
-/* bench REPETITIONS STEPS: times every engine on every guest and core, and prints tables in Markdown. */
+/* bench REPETITIONS STEPS FOLDER BUILD...: times every build on every guest and core, and prints tables in Markdown.
+ * FOLDER has each build at each place, as BUILD.PLACE.so with the call BUILD_run, ours as zpu_run. Ours is the first,
+ * Rust the last, and those between are C. */
+#include <dlfcn.h>
 #include <math.h>
 #include <stdio.h>
 #include <stdlib.h>
@@ -9,29 +12,19 @@
 
 typedef zpu_end run_call(uint8_t *image, size_t length, zpu_state start, uint32_t core, uint32_t limit);
 
-run_call gcc_run, clang_run, rust_run;
+enum { OURS, MOST_BUILDS = 4, PLACES = 4, MOST_REPETITIONS = 101, FOREVER = 0x7fffffff };
 
-static const struct {
+static struct {
     const char *name;
-    run_call *run;
-    int is_c;
-} engines[] = {
-    {"ours", zpu_run, 0},
-    {"gcc", gcc_run, 1},
-#ifdef WITH_CLANG
-    {"clang", clang_run, 1},
-#endif
-    {"rust", rust_run, 0},
-};
-
-enum { OURS, ENGINES = sizeof engines / sizeof engines[0], MOST_REPETITIONS = 101, FOREVER = 0x7fffffff };
+    run_call *run[PLACES];
+    double seconds[PLACES][MOST_REPETITIONS];
+} builds[MOST_BUILDS];
 
 static const char *const core_names[] = {"narrow", "wide"};
 
 static uint8_t image[ZPU_IMAGE_MAX];
 static uint8_t first_image[ZPU_IMAGE_MAX];
-static double seconds[ENGINES][MOST_REPETITIONS];
-static int repetitions;
+static int build_count, repetitions;
 static uint32_t limit;
 
 static void stop(const char *what, const char *name)
@@ -86,64 +79,108 @@ static void check(const guest *program)
         stop("differs between the cores", program->name);
 }
 
-static zpu_end time_one(const guest *program, uint32_t core, int engine, int repetition)
+static void load(int build, const char *folder, const char *name)
+{
+    char path[256], symbol[32];
+    int place;
+
+    snprintf(symbol, sizeof symbol, "%s_run", build == OURS ? "zpu" : name);
+    builds[build].name = name;
+    for (place = 0; place < PLACES; place++) {
+        void *library;
+
+        snprintf(path, sizeof path, "%s/%s.%d.so", folder, name, place);
+        library = dlopen(path, RTLD_NOW | RTLD_LOCAL);
+        builds[build].run[place] = library == NULL ? NULL : (run_call *)dlsym(library, symbol);
+        if (builds[build].run[place] == NULL)
+            stop("no such build", path);
+    }
+}
+
+static zpu_end time_one(const guest *program, uint32_t core, int build, int place, int repetition)
 {
     zpu_state start = guest_load(program, image, FOREVER);
     double from = now();
-    zpu_end end = engines[engine].run(image, sizeof image, start, core, limit);
+    zpu_end end = builds[build].run[place](image, sizeof image, start, core, limit);
 
-    seconds[engine][repetition] = now() - from;
+    builds[build].seconds[place][repetition] = now() - from;
     return end;
 }
 
-/* The engines take turns, another one beginning each time; all must end alike. */
+/* The builds take turns at every place, another one beginning each time; all must end alike. */
 static void time_all(const guest *program, uint32_t core)
 {
-    zpu_end first = time_one(program, core, OURS, 0);
-    int repetition, k;
+    zpu_end first = time_one(program, core, OURS, 0, 0);
+    int turns = build_count * PLACES, repetition, k;
 
     memcpy(first_image, image, sizeof image);
     for (repetition = 0; repetition < repetitions; repetition++)
-        for (k = 0; k < ENGINES; k++) {
-            int engine = (repetition + k) % ENGINES;
-            zpu_end end = time_one(program, core, engine, repetition);
+        for (k = 0; k < turns; k++) {
+            int turn = (repetition + k) % turns, build = turn % build_count;
+            zpu_end end = time_one(program, core, build, turn / build_count, repetition);
 
             if (!is_same(end, first) || memcmp(image, first_image, sizeof image) != 0)
-                stop("ends differently from ours", engines[engine].name);
+                stop("ends differently from ours", builds[build].name);
         }
 }
 
+/* A build's time in one repetition: the geometric mean over its places. */
+static double mean(int build, int repetition)
+{
+    double sum = 0;
+    int place;
+
+    for (place = 0; place < PLACES; place++)
+        sum += log(builds[build].seconds[place][repetition]);
+    return exp(sum / PLACES);
+}
+
 /* Our time over another's, by repetition: prints the median and the extremes, gives the median. */
-static double print_ratio(int engine)
+static double print_ratio(int build)
 {
     double ratios[MOST_REPETITIONS], middle;
     int k;
 
     for (k = 0; k < repetitions; k++)
-        ratios[k] = seconds[OURS][k] / seconds[engine][k];
+        ratios[k] = mean(OURS, k) / mean(build, k);
     middle = median(ratios);
     printf(" %.2f (%.2f to %.2f) |", middle, ratios[0], ratios[repetitions - 1]);
     return middle;
 }
 
-/* Adds the logarithm of each engine's ratio to its sum; OURS has that of the faster C. */
+/* Nanoseconds a step at a build's fastest place and at its slowest. */
+static void print_steps(int build)
+{
+    double fastest = INFINITY, slowest = 0;
+    int place;
+
+    for (place = 0; place < PLACES; place++) {
+        double nanoseconds = 1e9 * median(builds[build].seconds[place]) / limit;
+
+        fastest = fmin(fastest, nanoseconds);
+        slowest = fmax(slowest, nanoseconds);
+    }
+    printf(" %.2f to %.2f |", fastest, slowest);
+}
+
+/* Adds the logarithm of each build's ratio to its sum; OURS has that of the faster C. */
 static void print_row(const guest *program, uint32_t core, double *sums)
 {
     double faster_c = 0;
-    int engine;
+    int build;
 
     printf("| %s | %s |", program->name, core_names[core]);
-    for (engine = OURS + 1; engine < ENGINES; engine++) {
-        double ratio = print_ratio(engine);
+    for (build = OURS + 1; build < build_count; build++) {
+        double ratio = print_ratio(build);
 
-        sums[engine] += log(ratio);
-        if (engines[engine].is_c && ratio > faster_c)
-            faster_c = ratio;
+        sums[build] += log(ratio);
+        if (build < build_count - 1)
+            faster_c = fmax(faster_c, ratio);
     }
     sums[OURS] += log(faster_c);
     printf(" %.2f |", faster_c);
-    for (engine = OURS; engine < ENGINES; engine++)
-        printf(" %.2f |", 1e9 * median(seconds[engine]) / limit);
+    for (build = OURS; build < build_count; build++)
+        print_steps(build);
     printf("\n");
     fflush(stdout);
 }
@@ -153,20 +190,20 @@ static void print_head(void)
     int k;
 
     printf("| loop | core |");
-    for (k = OURS + 1; k < ENGINES; k++)
-        printf(" ours/%s |", engines[k].name);
+    for (k = OURS + 1; k < build_count; k++)
+        printf(" ours/%s |", builds[k].name);
     printf(" ours/faster C |");
-    for (k = OURS; k < ENGINES; k++)
-        printf(" %s, ns a step |", engines[k].name);
+    for (k = OURS; k < build_count; k++)
+        printf(" %s, ns a step by place |", builds[k].name);
     printf("\n|---|---|");
-    for (k = 0; k < 2 * ENGINES; k++)
+    for (k = 0; k < 2 * build_count; k++)
         printf("---|");
     printf("\n");
 }
 
 static void compare(void)
 {
-    double sums[ENGINES] = {0};
+    double sums[MOST_BUILDS] = {0};
     int k, rows = 2 * GUESTS;
 
     print_head();
@@ -178,10 +215,10 @@ static void compare(void)
         print_row(program, core, sums);
     }
     printf("| geometric mean | |");
-    for (k = OURS + 1; k < ENGINES; k++)
+    for (k = OURS + 1; k < build_count; k++)
         printf(" %.2f |", exp(sums[k] / rows));
     printf(" %.2f |", exp(sums[OURS] / rows));
-    for (k = OURS; k < ENGINES; k++)
+    for (k = OURS; k < build_count; k++)
         printf(" |");
     printf("\n");
 }
@@ -219,10 +256,13 @@ int main(int count, char **words)
 {
     int k;
 
-    repetitions = count == 3 ? atoi(words[1]) : 0;
-    limit = count == 3 ? (uint32_t)strtoul(words[2], NULL, 10) : 0;
+    build_count = count - 4;
+    repetitions = build_count < 2 || build_count > MOST_BUILDS ? 0 : atoi(words[1]);
+    limit = repetitions == 0 ? 0 : (uint32_t)strtoul(words[2], NULL, 10);
     if (repetitions < 1 || repetitions > MOST_REPETITIONS || limit < 1)
-        stop("give repetitions, 1 to 101, and steps", "usage");
+        stop("give repetitions, 1 to 101, steps, a folder and 2 to 4 builds", "usage");
+    for (k = 0; k < build_count; k++)
+        load(k, words[3], words[4 + k]);
     for (k = 0; k < GUESTS; k++)
         check(&guests[k]);
     compare();

@@ -1,1 +1,1 @@
-pub mod BothFlags
+pub mod SevenBits

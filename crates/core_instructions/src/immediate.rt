@@ -1,50 +1,55 @@
-// IM: the word written and what stands above the seven bits are picked by the flag, and written once.
+// IM: with the flag clear the seven bits are pushed, sign-extended; with it set they are joined to the top.
 use machine::Answer;
 use machine::Outcome;
 use machine::State;
 use memory::WordIndex;
 ghost use mathlib.Core.Path.{_≡_};
-ghost use Prim.Native.Nat.{ℕ, _+_, _-_, _*_, _/_, _^_, _<_, _≤_};
-ghost use mathlib.Core.Bool.{cond};
-ghost use lib.Dec.{ltb};
-ghost use lib.ListN.{length};
-ghost use Rattle.memory.specs.Memory.{word};
+ghost use mathlib.Core.Bool.{true, false};
+ghost use Prim.Native.Nat.{ℕ, _+_, _-_, _*_, _<_, _≤_};
 ghost use Rattle.arithmetic.specs.Words.{wrap};
-ghost use Rattle.machine.specs.Table.{effectOf};
+ghost use Rattle.machine.specs.Table.{effectOf, extended};
 ghost use Rattle.machine.specs.Instructions.{Instr.IM};
 ghost use Rattle.machine.specs.Inner.{Ready, Carried};
 
-// One past the word that is written.
-fn past(s: State) -> usize
-    requires { ⌜ s .sp .0 ≤ 16384 ⌝ }
-    ensures { λ r. ⌜ r ≡ cond (s .flag) (s .sp .0 + 1) (s .sp .0) ⌝ }
+// Seven bits sign-extended.
+fn extended(v: u32) -> u32
+    requires { ⌜ v < 128 ⌝ }
+    ensures { λ r. ⌜ r ≡ extended v ⌝ }
 {
-    let flag = s.flag;
-    if flag { s.sp.0 + 1 } else { s.sp.0 }
+    std::num::wrapping_sub_u32((v + 64) % 128, 64)
 }
 
-fn sign(v: u32) -> u32
-    ensures { λ r. ⌜ r ≡ cond (ltb v 64) 0 (2 ^ 32 - 1) ⌝ }
+fn joined(a: u32, v: u32) -> u32
+    ensures { λ r. ⌜ r ≡ wrap (a * 128 + v) ⌝ }
 {
-    if v < 64 { 0 } else { 4294967295 }
+    ((a as u64 * 128 + v as u64) % 4294967296) as u32
 }
 
-// What stands above the seven bits.
-fn above(image: &[u8], flag: bool, at: WordIndex, v: u32) -> u32
-    requires { ⌜ (at .0 < length (now image) / 4) × (length (now image) ≤ 65536) ⌝ }
-    ensures { λ r. ⌜ r ≡ cond flag (word (now (image .entry)) (at .0)) (cond (ltb v 64) 0 (2 ^ 32 - 1)) ⌝ }
+fn pushed(image: &mut [u8], s: State, v: u32) -> Answer
+    requires { ⌜ Ready (now image) s ⌝ }
+    requires { ⌜ (v < 128) × (s .flag ≡ false) ⌝ }
+    ensures { λ r. ⌜ Carried (now (image .entry)) s (effectOf (now (image .entry)) s (IM v)) r (now (image .exit)) ⌝ }
 {
-    if flag {
-        memory::read_word(image, at)
-    } else {
-        sign(v)
+    let sp = s.sp.0;
+    if sp == 0 {
+        return Answer::Refused(s, Outcome::Stack);
     }
+    memory::write_word(image, WordIndex(sp - 1), extended(v));
+    Answer::Done(s.mark(WordIndex(sp - 1)))
 }
 
-fn joined(high: u32, v: u32) -> u32
-    ensures { λ r. ⌜ r ≡ wrap (high * 128 + v) ⌝ }
+fn continued(image: &mut [u8], s: State, v: u32) -> Answer
+    requires { ⌜ Ready (now image) s ⌝ }
+    requires { ⌜ s .flag ≡ true ⌝ }
+    ensures { λ r. ⌜ Carried (now (image .entry)) s (effectOf (now (image .entry)) s (IM v)) r (now (image .exit)) ⌝ }
 {
-    ((high as u64 * 128 + v as u64) % 4294967296) as u32
+    let sp = s.sp.0;
+    if image.len() / 4 <= sp {
+        return Answer::Refused(s, Outcome::Stack);
+    }
+    let a = memory::read_word(image, s.sp);
+    memory::write_word(image, s.sp, joined(a, v));
+    Answer::Done(s.mark(s.sp))
 }
 
 pub fn im(image: &mut [u8], s: State, byte: u8) -> Answer
@@ -53,14 +58,10 @@ pub fn im(image: &mut [u8], s: State, byte: u8) -> Answer
     ensures { λ r. ⌜ Carried (now (image .entry)) s (effectOf (now (image .entry)) s (IM (byte - 128))) r (now (image .exit)) ⌝ }
 {
     let v = byte as u32 - 128;
-    let end = past(s);
-    if end == 0 {
-        return Answer::Refused(s, Outcome::Stack);
+    let flag = s.flag;
+    if flag {
+        continued(image, s, v)
+    } else {
+        pushed(image, s, v)
     }
-    if image.len() / 4 < end {
-        return Answer::Refused(s, Outcome::Stack);
-    }
-    let high = above(image, s.flag, WordIndex(end - 1), v);
-    memory::write_word(image, WordIndex(end - 1), joined(high, v));
-    Answer::Done(s.mark(WordIndex(end - 1)))
 }

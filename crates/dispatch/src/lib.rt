@@ -1,4 +1,4 @@
-// Which instruction a byte is, where single values decide.
+// Which instruction a byte below 64 is on the wide core. Below 32 it is the same on the narrow one.
 use arithmetic::BinOp;
 use arithmetic::DivOp;
 use arithmetic::UnOp;
@@ -7,41 +7,63 @@ use machine::Outcome;
 use machine::State;
 use machine::Width;
 ghost use mathlib.Core.Path.{_≡_};
-ghost use Prim.Native.Nat.{ℕ, _-_, _≤_};
-ghost use lib.ListN.{getD};
+ghost use mathlib.Core.Bool.{false, cond};
+ghost use Prim.Native.Nat.{ℕ, _/_, _%_, _<_};
+ghost use lib.Dec.{eqb};
+ghost use Rattle.machine.specs.declared.Core.the-variants.{Wide};
 ghost use Rattle.machine.specs.Table.{effectOf};
-ghost use Rattle.machine.specs.Instructions.{Instr.ILLEGAL, low, wide};
+ghost use Rattle.machine.specs.Instructions.{Instr.ADDSP, Instr.ILLEGAL, decode};
 ghost use Rattle.machine.specs.Inner.{Ready, Carried};
+ghost use Rattle.dispatch.specs.Words.{oneOf, words};
 
-// Bytes 0 to 15.
-pub fn low(image: &mut [u8], s: State, byte: u8) -> Answer
+// ADDSP is bytes 16 to 31.
+fn addsp_or_illegal(image: &mut [u8], s: State, byte: u8) -> Answer
     requires { ⌜ Ready (now image) s ⌝ }
-    ensures { λ r. ⌜ Carried (now (image .entry)) s (effectOf (now (image .entry)) s (getD low byte ILLEGAL)) r (now (image .exit)) ⌝ }
+    ensures { λ r. ⌜ Carried (now (image .entry)) s (effectOf (now (image .entry)) s (cond (eqb (byte / 16) 1) (ADDSP (byte % 16)) ILLEGAL)) r (now (image .exit)) ⌝ }
+{
+    if byte / 16 == 1 {
+        return core_instructions::addsp(image, s, byte % 16);
+    }
+    Answer::Refused(s, Outcome::Illegal)
+}
+
+// The other instructions: the byte is none of `words`.
+fn others(image: &mut [u8], s: State, byte: u8) -> Answer
+    requires { ⌜ Ready (now image) s ⌝ }
+    requires { ⌜ (byte < 64) × (oneOf words byte ≡ false) ⌝ }
+    ensures { λ r. ⌜ Carried (now (image .entry)) s (effectOf (now (image .entry)) s (decode Wide byte)) r (now (image .exit)) ⌝ }
 {
     match byte {
         0 => Answer::Broke(s.next(s.sp)),
         2 => core_instructions::pushsp(image, s),
         4 => core_instructions::poppc(image, s),
+        11 => Answer::Done(s.next(s.sp)),
+        13 => core_instructions::popsp(image, s),
+        45 => wide_instructions::call(image, s),
+        55 => wide_instructions::eqbranch(image, s),
+        56 => wide_instructions::neqbranch(image, s),
+        57 => wide_instructions::poppcrel(image, s),
+        59 => wide_instructions::pushpc(image, s),
+        61 => wide_instructions::pushspadd(image, s),
+        63 => wide_instructions::callpcrel(image, s),
+        _ => addsp_or_illegal(image, s, byte),
+    }
+}
+
+// The instructions that work on words, and the others.
+pub fn wide(image: &mut [u8], s: State, byte: u8) -> Answer
+    requires { ⌜ Ready (now image) s ⌝ }
+    requires { ⌜ byte < 64 ⌝ }
+    ensures { λ r. ⌜ Carried (now (image .entry)) s (effectOf (now (image .entry)) s (decode Wide byte)) r (now (image .exit)) ⌝ }
+{
+    match byte {
         5 => word_instructions::binary(image, s, BinOp::Add),
         6 => word_instructions::binary(image, s, BinOp::And),
         7 => word_instructions::binary(image, s, BinOp::Or),
         8 => word_instructions::load(image, s, Width::Word),
         9 => word_instructions::unary(image, s, UnOp::Not),
         10 => word_instructions::unary(image, s, UnOp::Flip),
-        11 => Answer::Done(s.next(s.sp)),
         12 => word_instructions::store(image, s, Width::Word),
-        13 => core_instructions::popsp(image, s),
-        _ => Answer::Refused(s, Outcome::Illegal),
-    }
-}
-
-// Bytes 32 to 63 on the wide core.
-pub fn wide(image: &mut [u8], s: State, byte: u8) -> Answer
-    requires { ⌜ Ready (now image) s ⌝ }
-    requires { ⌜ 32 ≤ byte ⌝ }
-    ensures { λ r. ⌜ Carried (now (image .entry)) s (effectOf (now (image .entry)) s (getD wide (byte - 32) ILLEGAL)) r (now (image .exit)) ⌝ }
-{
-    match byte {
         34 => word_instructions::load(image, s, Width::Half),
         35 => word_instructions::store(image, s, Width::Half),
         36 => word_instructions::binary(image, s, BinOp::LessThan),
@@ -52,7 +74,6 @@ pub fn wide(image: &mut [u8], s: State, byte: u8) -> Answer
         42 => word_instructions::binary(image, s, BinOp::LShiftRight),
         43 => word_instructions::binary(image, s, BinOp::AShiftLeft),
         44 => word_instructions::binary(image, s, BinOp::AShiftRight),
-        45 => wide_instructions::call(image, s),
         46 => word_instructions::binary(image, s, BinOp::Eq),
         47 => word_instructions::binary(image, s, BinOp::Neq),
         48 => word_instructions::unary(image, s, UnOp::Neg),
@@ -62,12 +83,6 @@ pub fn wide(image: &mut [u8], s: State, byte: u8) -> Answer
         52 => word_instructions::store(image, s, Width::Byte),
         53 => word_instructions::division(image, s, DivOp::Div),
         54 => word_instructions::division(image, s, DivOp::Mod),
-        55 => wide_instructions::eqbranch(image, s),
-        56 => wide_instructions::neqbranch(image, s),
-        57 => wide_instructions::poppcrel(image, s),
-        59 => wide_instructions::pushpc(image, s),
-        61 => wide_instructions::pushspadd(image, s),
-        63 => wide_instructions::callpcrel(image, s),
-        _ => Answer::Refused(s, Outcome::Illegal),
+        _ => others(image, s, byte),
     }
 }

@@ -50,11 +50,18 @@ fn pair(a: u8, b: u8) -> u32
     a as u32 * 256 + b as u32
 }
 
-// Four bytes, the highest first.
+// The four bytes of a word in the opposite order.
+fn reversed(v: u32) -> u32
+    ensures { λ r. ⌜ r ≡ v % 256 * 16777216 + v / 256 % 256 * 65536 + v / 65536 % 256 * 256 + v / 16777216 ⌝ }
+{
+    v % 256 * 16777216 + v / 256 % 256 * 65536 + v / 65536 % 256 * 256 + v / 16777216
+}
+
+// Four bytes, the highest first; taken the lowest first, as the processor has them, they are one load.
 fn four(a: u8, b: u8, c: u8, d: u8) -> u32
     ensures { λ r. ⌜ r ≡ ((a * 256 + b) * 256 + c) * 256 + d ⌝ }
 {
-    a as u32 * 16777216 + b as u32 * 65536 + c as u32 * 256 + d as u32
+    reversed(a as u32 + b as u32 * 256 + c as u32 * 65536 + d as u32 * 16777216)
 }
 
 pub fn read_byte(image: &[u8], a: ByteAddr) -> u32
@@ -104,13 +111,20 @@ pub fn write_half(image: &mut [u8], a: ByteAddr, v: u32)
     set_byte(image, at + 1, (v % 256) as u8);
 }
 
+// The four bytes of v, the lowest first: one store.
+fn set_four(image: &mut [u8], at: usize, v: u32)
+    requires { ⌜ at + 3 < length (now image) ⌝ }
+    ensures { λ _. ⌜ now (image .exit) ≡ set (set (set (set (now (image .entry)) at (v % 256)) (at + 1) (v / 256 % 256)) (at + 2) (v / 65536 % 256)) (at + 3) (v / 16777216) ⌝ }
+{
+    set_byte(image, at, (v % 256) as u8);
+    set_byte(image, at + 1, (v / 256 % 256) as u8);
+    set_byte(image, at + 2, (v / 65536 % 256) as u8);
+    set_byte(image, at + 3, (v / 16777216) as u8);
+}
+
 pub fn write_word(image: &mut [u8], w: WordIndex, v: u32)
     requires { ⌜ (w .0 < length (now image) / 4) × (length (now image) ≤ 65536) ⌝ }
     ensures { λ _. ⌜ now (image .exit) ≡ setBytes (now (image .entry)) (4 * w .0) 4 v ⌝ }
 {
-    let at = w.place();
-    set_byte(image, at, (v / 256 / 256 / 256 % 256) as u8);
-    set_byte(image, at + 1, (v / 256 / 256 % 256) as u8);
-    set_byte(image, at + 2, (v / 256 % 256) as u8);
-    set_byte(image, at + 3, (v % 256) as u8);
+    set_four(image, w.place(), reversed(v));
 }

@@ -5,32 +5,19 @@ use machine::Outcome;
 use machine::State;
 ghost use mathlib.Core.Path.{_≡_};
 ghost use Prim.Native.Nat.{ℕ, _<_, _≤_};
+ghost use Rattle.machine.specs.declared.Core.the-variants.{Narrow};
 ghost use Rattle.machine.specs.Table.{effectOf, stepOf};
-ghost use Rattle.machine.specs.Instructions.{first, middle, inverted, decode};
+ghost use Rattle.machine.specs.Instructions.{inverted, decode};
 ghost use Rattle.machine.specs.Inner.{Ready, Carried};
+ghost use Rattle.step.specs.Singles.{singles};
 
-// Bytes 32 to 63.
-fn middle(core: Core, image: &mut [u8], s: State, byte: u8) -> Answer
-    requires { ⌜ Ready (now image) s ⌝ }
-    requires { ⌜ (32 ≤ byte) × (byte < 64) ⌝ }
-    ensures { λ r. ⌜ Carried (now (image .entry)) s (effectOf (now (image .entry)) s (middle core byte)) r (now (image .exit)) ⌝ }
+// The first byte that the core tells by its class and not by its value.
+fn singles(core: Core) -> u8
+    ensures { λ r. ⌜ r ≡ singles core ⌝ }
 {
     match core {
-        Core::Narrow => core_instructions::emulate(image, s, byte - 32),
-        Core::Wide => dispatch::wide(image, s, byte),
-    }
-}
-
-// Bytes 0 to 31.
-fn first(image: &mut [u8], s: State, byte: u8) -> Answer
-    requires { ⌜ Ready (now image) s ⌝ }
-    requires { ⌜ byte < 32 ⌝ }
-    ensures { λ r. ⌜ Carried (now (image .entry)) s (effectOf (now (image .entry)) s (first byte)) r (now (image .exit)) ⌝ }
-{
-    if byte < 16 {
-        dispatch::low(image, s, byte)
-    } else {
-        core_instructions::addsp(image, s, byte % 16)
+        Core::Narrow => 32,
+        Core::Wide => 64,
     }
 }
 
@@ -40,19 +27,33 @@ fn inverted(byte: u8) -> u8
     (byte % 32 + 16) % 32
 }
 
-// The instruction that the byte is.
+// The classes but for IM.
+fn class(image: &mut [u8], s: State, byte: u8) -> Answer
+    requires { ⌜ Ready (now image) s ⌝ }
+    requires { ⌜ (32 ≤ byte) × (byte < 128) ⌝ }
+    ensures { λ r. ⌜ Carried (now (image .entry)) s (effectOf (now (image .entry)) s (decode Narrow byte)) r (now (image .exit)) ⌝ }
+{
+    if 96 <= byte {
+        return core_instructions::loadsp(image, s, inverted(byte));
+    }
+    if 64 <= byte {
+        return core_instructions::storesp(image, s, inverted(byte));
+    }
+    core_instructions::emulate(image, s, byte - 32)
+}
+
+// The instruction that the byte is, the commonest first.
 fn carry_out(core: Core, image: &mut [u8], s: State, byte: u8) -> Answer
     requires { ⌜ Ready (now image) s ⌝ }
     ensures { λ r. ⌜ Carried (now (image .entry)) s (effectOf (now (image .entry)) s (decode core byte)) r (now (image .exit)) ⌝ }
 {
-    let class = byte / 32;
-    match class {
-        0 => first(image, s, byte),
-        1 => middle(core, image, s, byte),
-        2 => core_instructions::storesp(image, s, inverted(byte)),
-        3 => core_instructions::loadsp(image, s, inverted(byte)),
-        _ => core_instructions::im(image, s, byte),
+    if 128 <= byte {
+        return core_instructions::im(image, s, byte);
     }
+    if byte < singles(core) {
+        return dispatch::wide(image, s, byte);
+    }
+    class(image, s, byte)
 }
 
 pub fn step(core: Core, image: &mut [u8], s: State) -> Answer

@@ -1,65 +1,27 @@
-use borrow.Author.Needs.{needs}
+use native.Mathlib.Omega.{arith}
 use Rattle.memory.proofs.Widths.{set-four}
+use Rattle.memory.proofs.Order.{reversed-lowest, reversed-second, reversed-third, reversed-highest}
+use borrow.Author.Needs.{needs}
 use Rattle.memory.proofs.write_word.Statement.{statement}
 use Rattle.memory.proofs.write_word.Tie as tie
 
 place-requires : tie.Need-place-requires
 place-requires c κs = search needs
 
-cast-set-byte : tie.Need-cast-set-byte
-cast-set-byte c = search needs
+reversed-requires : tie.Need-reversed-requires
+reversed-requires c κs = search needs
 
-set-byte-requires : tie.Need-set-byte-requires
-set-byte-requires c κs = search needs
-
-add-set-byte : tie.Need-add-set-byte
-add-set-byte c = search needs
-
-cast-set-byte-2 : tie.Need-cast-set-byte-2
-cast-set-byte-2 c = search needs
-
-set-byte-requires-2 : tie.Need-set-byte-requires-2
-set-byte-requires-2 c κs = search needs
-
-add-set-byte-2 : tie.Need-add-set-byte-2
-add-set-byte-2 c = search needs
-
-cast-set-byte-3 : tie.Need-cast-set-byte-3
-cast-set-byte-3 c = search needs
-
-set-byte-requires-3 : tie.Need-set-byte-requires-3
-set-byte-requires-3 c κs = search needs
-
-add-set-byte-3 : tie.Need-add-set-byte-3
-add-set-byte-3 c = search needs
-
-cast-set-byte-4 : tie.Need-cast-set-byte-4
-cast-set-byte-4 c = search needs
-
-set-byte-requires-4 : tie.Need-set-byte-requires-4
-set-byte-requires-4 c κs = search needs
+set-four-requires : tie.Need-set-four-requires
+set-four-requires c κs = search needs
 
 same-length : tie.Need-same-length
 same-length c = search needs
 
 returns : tie.Need-returns
-returns c = rw set-four (cc)
+returns c =
+    let v = c .before .before .before .before .before .before .before .args .v
+    in rw set-four (rw (c .before .before .before .before .place .ensures, c .before .before .before .reversed .ensures, reversed-lowest v (omega arith), reversed-second v (omega arith), reversed-third v (omega arith), reversed-highest v (omega arith)) at (c .before .before .set-four .ensures))
 
 pub write-word-spec : {M : Type 1} → statement M
 write-word-spec =
-    tie.close
-    (tie.spec
-    place-requires
-    cast-set-byte
-    set-byte-requires
-    add-set-byte
-    cast-set-byte-2
-    set-byte-requires-2
-    add-set-byte-2
-    cast-set-byte-3
-    set-byte-requires-3
-    add-set-byte-3
-    cast-set-byte-4
-    set-byte-requires-4
-    same-length
-    returns)
+    tie.close (tie.spec place-requires reversed-requires set-four-requires same-length returns)

@@ -1,27 +1,10 @@
 use native.Mathlib.Omega.{arith}
-use borrow.Author.Tests.{lt-ltb, le-ltb}
+use borrow.Author.Tests.{le-ltb}
 use Rattle.machine.specs.Instructions.{decode}
+use Rattle.step.proofs.Cores.{below, above}
 use borrow.Author.Needs.{needs}
 use Rattle.step.proofs.carry_out.Statement.{statement}
 use Rattle.step.proofs.carry_out.Tie as tie
-
-first-requires : tie.Need-first-requires
-first-requires c κs = search needs
-
-middle-requires : tie.Need-middle-requires
-middle-requires c κs = search needs
-
-inverted-requires : tie.Need-inverted-requires
-inverted-requires c κs = search needs
-
-storesp-requires : tie.Need-storesp-requires
-storesp-requires c κs = search needs
-
-inverted-requires-2 : tie.Need-inverted-requires-2
-inverted-requires-2 c κs = search needs
-
-loadsp-requires : tie.Need-loadsp-requires
-loadsp-requires c κs = search needs
 
 im-requires : tie.Need-im-requires
 im-requires c κs = search needs
@@ -31,54 +14,40 @@ same-length c = search needs
 
 returns : tie.Need-returns
 unfolding decode
-returns c = let a = c .before .before .before .before .before .before .args in simp (lt-ltb (a .byte) 32 (omega arith)) (c .before .before .first .ensures)
+returns c = let b = c .before .before .before .before .before .before .args .byte in simp (le-ltb b 32 (omega arith), le-ltb b 64 (omega arith), le-ltb b 96 (omega arith), le-ltb b 128 (omega arith)) (c .before .before .im .ensures)
+
+singles-requires : tie.Need-singles-requires
+singles-requires c κs = search needs
+
+wide-requires : tie.Need-wide-requires
+wide-requires c κs = let a = c .before .before .before .before .before .args in search (needs, below (a .core) (a .byte) (omega arith) .0)
 
 same-length-2 : tie.Need-same-length-2
 same-length-2 c = search needs
 
 returns-2 : tie.Need-returns-2
-unfolding decode
-returns-2 c = let a = c .before .before .before .before .before .before .args in simp (le-ltb (a .byte) 32 (omega arith), lt-ltb (a .byte) 64 (omega arith)) (c .before .before .middle .ensures)
+returns-2 c = let a = c .before .before .before .before .before .before .before .before .args in rw (below (a .core) (a .byte) (omega arith) .1) (c .before .before .wide .ensures)
+
+class-requires : tie.Need-class-requires
+class-requires c κs = let a = c .before .before .before .before .before .args in search (needs, above (a .core) (a .byte) (omega arith) .0)
 
 same-length-3 : tie.Need-same-length-3
 same-length-3 c = search needs
 
 returns-3 : tie.Need-returns-3
-unfolding decode
-returns-3 c = let a = c .before .before .before .before .before .before .before .args in simp (le-ltb (a .byte) 32 (omega arith), le-ltb (a .byte) 64 (omega arith), lt-ltb (a .byte) 96 (omega arith)) (rw (c .before .before .before .inverted .ensures) at (c .before .before .storesp .ensures))
-
-same-length-4 : tie.Need-same-length-4
-same-length-4 c = search needs
-
-returns-4 : tie.Need-returns-4
-unfolding decode
-returns-4 c = let a = c .before .before .before .before .before .before .before .args in simp (le-ltb (a .byte) 32 (omega arith), le-ltb (a .byte) 64 (omega arith), le-ltb (a .byte) 96 (omega arith), lt-ltb (a .byte) 128 (omega arith)) (rw (c .before .before .before .inverted2 .ensures) at (c .before .before .loadsp .ensures))
-
-same-length-5 : tie.Need-same-length-5
-same-length-5 c = search needs
-
-returns-5 : tie.Need-returns-5
-unfolding decode
-returns-5 c = let a = c .before .before .before .before .before .before .args in simp (le-ltb (a .byte) 32 (omega arith), le-ltb (a .byte) 64 (omega arith), le-ltb (a .byte) 96 (omega arith), le-ltb (a .byte) 128 (omega arith)) (c .before .before .im .ensures)
+returns-3 c = let a = c .before .before .before .before .before .before .before .before .args in rw (above (a .core) (a .byte) (omega arith) .1) (c .before .before .class .ensures)
 
 pub carry-out-spec : {M : Type 1} → statement M
 carry-out-spec =
     tie.close
     (tie.spec
-    first-requires
-    middle-requires
-    inverted-requires
-    storesp-requires
-    inverted-requires-2
-    loadsp-requires
     im-requires
     same-length
     returns
+    singles-requires
+    wide-requires
     same-length-2
     returns-2
+    class-requires
     same-length-3
-    returns-3
-    same-length-4
-    returns-4
-    same-length-5
-    returns-5)
+    returns-3)

@@ -1,0 +1,24 @@
+use Prim.Native.Nat.{_/_}
+use mathlib.Core.Path.{refl}
+use native.Mathlib.Omega.{arith}
+use borrow.Author.Tests.{eq-eqb, ne-eqb}
+use Rattle.machine.specs.Table.{effectOf, row}
+use borrow.Author.Needs.{needs}
+use Rattle.dispatch.proofs.addsp_or_illegal.Statement.{statement}
+use Rattle.dispatch.proofs.addsp_or_illegal.Tie as tie
+
+addsp-requires : tie.Need-addsp-requires
+addsp-requires c κs = search needs
+
+same-length : tie.Need-same-length
+same-length c = search needs
+
+returns : tie.Need-returns
+returns c = let b = c .before .before .before .before .before .before .args .byte in simp (eq-eqb (b / 16) 1 (omega arith)) (c .before .before .addsp .ensures)
+
+returns-2 : tie.Need-returns-2
+unfolding effectOf row
+returns-2 c = let b = c .before .before .args .byte in simp (ne-eqb (b / 16) 1 (λ q. omega arith)) (refl, refl)
+
+pub addsp-or-illegal-spec : {M : Type 1} → statement M
+addsp-or-illegal-spec = tie.close (tie.spec addsp-requires same-length returns returns-2)
