@@ -1,6 +1,5 @@
 use Rattle.dispatch.specs.Words.{words}
 use Rattle.dispatch.proofs.Rest.{none}
-use Rattle.machine.specs.Table.{effectOf, row}
 use Rattle.machine.specs.Instructions.{decode, first, middle}
 use borrow.Author.Needs.{needs}
 use Rattle.dispatch.proofs.wide.Statement.{statement}
