@@ -5,15 +5,6 @@ use Rattle.arithmetic.proofs.division.Tie as tie
 enum-told : tie.Need-enum-told
 enum-told c = search needs
 
-div-requires : tie.Need-div-requires
-div-requires c κs = search needs
-
-enum-told-2 : tie.Need-enum-told-2
-enum-told-2 c = search needs
-
-rem-requires : tie.Need-rem-requires
-rem-requires c κs = search needs
-
 returns : tie.Need-returns
 returns c = rw (c .before .enum-told .given .1) (c .div .ensures)
 
@@ -22,4 +13,4 @@ returns-2 c = rw (c .before .enum-told2 .given .1) (c .rem .ensures)
 
 pub division-spec : {M : Type 1} → statement M
 division-spec =
-    tie.close (tie.spec enum-told div-requires enum-told-2 rem-requires returns returns-2)
+    tie.close (tie.spec enum-told (λ c κs. search needs) (λ c. search needs) (λ c κs. search needs) returns returns-2)

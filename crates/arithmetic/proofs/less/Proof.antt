@@ -3,12 +3,6 @@ use Rattle.arithmetic.proofs.Signed.{sign, order}
 use Rattle.arithmetic.proofs.less.Statement.{statement}
 use Rattle.arithmetic.proofs.less.Tie as tie
 
-wrapping-sub-u32-requires : tie.Need-wrapping-sub-u32-requires
-wrapping-sub-u32-requires c κs = search needs
-
-wrapping-sub-u32-requires-2 : tie.Need-wrapping-sub-u32-requires-2
-wrapping-sub-u32-requires-2 c κs = search needs
-
 returns : tie.Need-returns
 returns c =
     let x = c .before .before .args in
@@ -17,4 +11,4 @@ returns c =
     order (sign (x .a)) (sign (x .b)) (d .result) (e .result) (search needs) (search needs) (d .ensures) (e .ensures)
 
 pub less-spec : {M : Type 1} → statement M
-less-spec = tie.close (tie.spec wrapping-sub-u32-requires wrapping-sub-u32-requires-2 returns)
+less-spec = tie.close (tie.spec (λ c κs. search needs) (λ c κs. search needs) returns)

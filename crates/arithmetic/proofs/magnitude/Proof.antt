@@ -4,12 +4,6 @@ use Rattle.arithmetic.proofs.Signed.{sign, magnitude-is}
 use Rattle.arithmetic.proofs.magnitude.Statement.{statement}
 use Rattle.arithmetic.proofs.magnitude.Tie as tie
 
-is-negative-requires : tie.Need-is-negative-requires
-is-negative-requires c κs = search needs
-
-wrapping-sub-u32-requires : tie.Need-wrapping-sub-u32-requires
-wrapping-sub-u32-requires c κs = search needs
-
 returns : tie.Need-returns
 returns c =
     let n = c .before .before in
@@ -21,4 +15,4 @@ returns-2 c =
     omega (arith, rw (← n .is-negative .ensures, c .if1 .left) at (magnitude-is (sign (n .before .args .x)) (search needs)))
 
 pub magnitude-spec : {M : Type 1} → statement M
-magnitude-spec = tie.close (tie.spec is-negative-requires wrapping-sub-u32-requires returns returns-2)
+magnitude-spec = tie.close (tie.spec (λ c κs. search needs) (λ c κs. search needs) returns returns-2)

@@ -6,11 +6,5 @@ use Rattle.arithmetic.proofs.mult.Tie as tie
 mul-result : tie.Need-mul-result
 mul-result c = record { fits = below 32 (search needs) (search needs) }
 
-cast-result : tie.Need-cast-result
-cast-result c = search needs
-
-returns : tie.Need-returns
-returns c = search needs
-
 pub mult-spec : {M : Type 1} → statement M
-mult-spec = tie.close (tie.spec mul-result cast-result returns)
+mult-spec = tie.close (tie.spec mul-result (λ c. search needs) (λ c. search needs))

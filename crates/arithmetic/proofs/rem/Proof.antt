@@ -4,21 +4,9 @@ use Rattle.arithmetic.proofs.Signed.{sign, magnitude-pos, rem-by-sign}
 use Rattle.arithmetic.proofs.rem.Statement.{statement}
 use Rattle.arithmetic.proofs.rem.Tie as tie
 
-is-negative-requires : tie.Need-is-negative-requires
-is-negative-requires c κs = search needs
-
-magnitude-requires : tie.Need-magnitude-requires
-magnitude-requires c κs = search needs
-
-magnitude-requires-2 : tie.Need-magnitude-requires-2
-magnitude-requires-2 c κs = search needs
-
 rem-signed-as : tie.Need-rem-signed-as
 rem-signed-as c =
     let s = c .before .before .before in rw (c .magnitude2 .ensures) (magnitude-pos (sign (s .args .a)) (s .pre))
-
-signed-as-requires : tie.Need-signed-as-requires
-signed-as-requires c κs = search needs
 
 returns : tie.Need-returns
 returns c =
@@ -30,9 +18,9 @@ pub rem-spec : {M : Type 1} → statement M
 rem-spec =
     tie.close
     (tie.spec
-    is-negative-requires
-    magnitude-requires
-    magnitude-requires-2
+    (λ c κs. search needs)
+    (λ c κs. search needs)
+    (λ c κs. search needs)
     rem-signed-as
-    signed-as-requires
+    (λ c κs. search needs)
     returns)

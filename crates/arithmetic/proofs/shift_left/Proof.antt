@@ -4,9 +4,6 @@ use borrow.Author.Needs.{needs}
 use Rattle.arithmetic.proofs.shift_left.Statement.{statement}
 use Rattle.arithmetic.proofs.shift_left.Tie as tie
 
-shl-result : tie.Need-shl-result
-shl-result c = search needs
-
 returns : tie.Need-returns
 returns c = rw (min-eq-left (le-of-lt (c .if1 .taken)))
 
@@ -14,4 +11,4 @@ returns-2 : tie.Need-returns-2
 returns-2 c = rw (min-eq-right (c .if1 .left)) (omega arith)
 
 pub shift-left-spec : {M : Type 1} → statement M
-shift-left-spec = tie.close (tie.spec shl-result returns returns-2)
+shift-left-spec = tie.close (tie.spec (λ c. search needs) returns returns-2)

@@ -5,15 +5,6 @@ use Rattle.arithmetic.proofs.Shift.{shift-is}
 use Rattle.arithmetic.proofs.shift_signed.Statement.{statement}
 use Rattle.arithmetic.proofs.shift_signed.Tie as tie
 
-is-negative-requires : tie.Need-is-negative-requires
-is-negative-requires c κs = search needs
-
-shift-right-requires : tie.Need-shift-right-requires
-shift-right-requires c κs = search needs
-
-shift-right-requires-2 : tie.Need-shift-right-requires-2
-shift-right-requires-2 c κs = search needs
-
 returns : tie.Need-returns
 returns c =
     let n = c .before .before in
@@ -29,4 +20,4 @@ returns-2 c =
 pub shift-signed-spec : {M : Type 1} → statement M
 shift-signed-spec =
     tie.close
-    (tie.spec is-negative-requires shift-right-requires shift-right-requires-2 returns returns-2)
+    (tie.spec (λ c κs. search needs) (λ c κs. search needs) (λ c κs. search needs) returns returns-2)

@@ -5,9 +5,6 @@ use Rattle.arithmetic.proofs.Signed.{word-of-negative}
 use Rattle.arithmetic.proofs.signed_as.Statement.{statement}
 use Rattle.arithmetic.proofs.signed_as.Tie as tie
 
-wrapping-sub-u32-requires : tie.Need-wrapping-sub-u32-requires
-wrapping-sub-u32-requires c κs = search needs
-
 returns : tie.Need-returns
 returns c = rw (c .before .if1 .taken, word-of-negative (c .before .before .args .n) (search needs)) (omega arith)
 
@@ -16,4 +13,4 @@ unfolding wordOf
 returns-2 c = rw (c .if1 .left) (omega arith)
 
 pub signed-as-spec : {M : Type 1} → statement M
-signed-as-spec = tie.close (tie.spec wrapping-sub-u32-requires returns returns-2)
+signed-as-spec = tie.close (tie.spec (λ c κs. search needs) returns returns-2)

@@ -6,18 +6,6 @@ use Rattle.arithmetic.proofs.unary.Tie as tie
 enum-told : tie.Need-enum-told
 enum-told c = search needs
 
-enum-told-2 : tie.Need-enum-told-2
-enum-told-2 c = search needs
-
-flip-requires : tie.Need-flip-requires
-flip-requires c κs = search needs
-
-enum-told-3 : tie.Need-enum-told-3
-enum-told-3 c = search needs
-
-wrapping-sub-u32-requires : tie.Need-wrapping-sub-u32-requires
-wrapping-sub-u32-requires c κs = search needs
-
 returns : tie.Need-returns
 returns c = rw (c .enum-told .given .1)
 
@@ -32,10 +20,10 @@ unary-spec =
     tie.close
     (tie.spec
     enum-told
-    enum-told-2
-    flip-requires
-    enum-told-3
-    wrapping-sub-u32-requires
+    (λ c. search needs)
+    (λ c κs. search needs)
+    (λ c. search needs)
+    (λ c κs. search needs)
     returns
     returns-2
     returns-3)

@@ -7,12 +7,6 @@ use borrow.Author.Needs.{needs}
 use Rattle.dispatch.proofs.addsp_or_illegal.Statement.{statement}
 use Rattle.dispatch.proofs.addsp_or_illegal.Tie as tie
 
-addsp-requires : tie.Need-addsp-requires
-addsp-requires c κs = search needs
-
-same-length : tie.Need-same-length
-same-length c = search needs
-
 returns : tie.Need-returns
 returns c = let b = c .before .before .before .before .before .before .args .byte in simp (eq-eqb (b / 16) 1 (omega arith)) (c .before .before .addsp .ensures)
 
@@ -21,4 +15,4 @@ unfolding effectOf row
 returns-2 c = let b = c .before .before .args .byte in simp (ne-eqb (b / 16) 1 (λ q. omega arith)) (refl, refl)
 
 pub addsp-or-illegal-spec : {M : Type 1} → statement M
-addsp-or-illegal-spec = tie.close (tie.spec addsp-requires same-length returns returns-2)
+addsp-or-illegal-spec = tie.close (tie.spec (λ c κs. search needs) (λ c. search needs) returns returns-2)

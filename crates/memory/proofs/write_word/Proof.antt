@@ -5,18 +5,6 @@ use borrow.Author.Needs.{needs}
 use Rattle.memory.proofs.write_word.Statement.{statement}
 use Rattle.memory.proofs.write_word.Tie as tie
 
-place-requires : tie.Need-place-requires
-place-requires c κs = search needs
-
-reversed-requires : tie.Need-reversed-requires
-reversed-requires c κs = search needs
-
-set-four-requires : tie.Need-set-four-requires
-set-four-requires c κs = search needs
-
-same-length : tie.Need-same-length
-same-length c = search needs
-
 returns : tie.Need-returns
 returns c =
     let v = c .before .before .before .before .before .before .before .args .v
@@ -24,4 +12,4 @@ returns c =
 
 pub write-word-spec : {M : Type 1} → statement M
 write-word-spec =
-    tie.close (tie.spec place-requires reversed-requires set-four-requires same-length returns)
+    tie.close (tie.spec (λ c κs. search needs) (λ c κs. search needs) (λ c κs. search needs) (λ c. search needs) returns)

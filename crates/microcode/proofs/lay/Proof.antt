@@ -12,19 +12,10 @@ use Rattle.microcode.proofs.lay.Tie as tie
 returns : tie.Need-returns
 returns c = simp (lt-ltb (length (now (c .before .before .args .image))) pageLength (c .if1 .taken)) (refl, refl)
 
-slice-aggregate-copy : tie.Need-slice-aggregate-copy
-slice-aggregate-copy c = search needs
-
-copy-requires : tie.Need-copy-requires
-copy-requires c κs = search needs
-
-same-length : tie.Need-same-length
-same-length c = search needs
-
 returns-2 : tie.Need-returns-2
 unfolding page
 returns-2 c =
     simp (le-ltb (length (now (c .before .before .before .before .before .before .before .args .image))) pageLength (omega arith)) (refl, c .before .before .copy .ensures .1)
 
 pub lay-spec : {M : Type 1} → statement M
-lay-spec = tie.close (tie.spec returns slice-aggregate-copy copy-requires same-length returns-2)
+lay-spec = tie.close (tie.spec returns (λ c. search needs) (λ c κs. search needs) (λ c. search needs) returns-2)

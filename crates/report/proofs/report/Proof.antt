@@ -15,9 +15,6 @@ use Rattle.report.proofs.report.Tie as tie
 lent : (l : ℕ) → runs l ≡ true → length {A = ℕ} (take l (replicate longest 0)) ≡ l
 lent l h = length-take-le l (replicate longest 0) (sizes l h .1)
 
-runs-requires : tie.Need-runs-requires
-runs-requires c κs = search needs
-
 array-borrow-prefix-wide : tie.Need-array-borrow-prefix-wide
 array-borrow-prefix-wide c = sizes (length (c .before .before .before .args .input .now)) (cc) .1
 
@@ -44,12 +41,6 @@ returns c =
     let h : runs (length (a .input .now)) ≡ true = cc in
     rw h (alone (lines (a .input .now)) (a .out .now) (p .0) (omega (arith, p .0 .0, p .1)))
 
-slice-aggregate-letters : tie.Need-slice-aggregate-letters
-slice-aggregate-letters c = search needs
-
-letters-requires : tie.Need-letters-requires
-letters-requires c κs = search needs
-
 returns-2 : tie.Need-returns-2
 unfolding printed
 returns-2 c =
@@ -61,13 +52,13 @@ pub report-spec : {M : Type 1} → statement M
 report-spec =
     tie.close
     (tie.spec
-    runs-requires
+    (λ c κs. search needs)
     array-borrow-prefix-wide
     slice-aggregate-sessions
     array-borrow-prefix-narrow
     slice-aggregate-sessions-2
     sessions-requires
     returns
-    slice-aggregate-letters
-    letters-requires
+    (λ c. search needs)
+    (λ c κs. search needs)
     returns-2)

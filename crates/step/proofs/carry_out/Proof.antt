@@ -6,33 +6,18 @@ use borrow.Author.Needs.{needs}
 use Rattle.step.proofs.carry_out.Statement.{statement}
 use Rattle.step.proofs.carry_out.Tie as tie
 
-im-requires : tie.Need-im-requires
-im-requires c κs = search needs
-
-same-length : tie.Need-same-length
-same-length c = search needs
-
 returns : tie.Need-returns
 unfolding decode
 returns c = let b = c .before .before .before .before .before .before .args .byte in simp (le-ltb b 32 (omega arith), le-ltb b 64 (omega arith), le-ltb b 96 (omega arith), le-ltb b 128 (omega arith)) (c .before .before .im .ensures)
 
-singles-requires : tie.Need-singles-requires
-singles-requires c κs = search needs
-
 wide-requires : tie.Need-wide-requires
 wide-requires c κs = let a = c .before .before .before .before .before .args in search (needs, below (a .core) (a .byte) (omega arith) .0)
-
-same-length-2 : tie.Need-same-length-2
-same-length-2 c = search needs
 
 returns-2 : tie.Need-returns-2
 returns-2 c = let a = c .before .before .before .before .before .before .before .before .args in rw (below (a .core) (a .byte) (omega arith) .1) (c .before .before .wide .ensures)
 
 class-requires : tie.Need-class-requires
 class-requires c κs = let a = c .before .before .before .before .before .args in search (needs, above (a .core) (a .byte) (omega arith) .0)
-
-same-length-3 : tie.Need-same-length-3
-same-length-3 c = search needs
 
 returns-3 : tie.Need-returns-3
 returns-3 c = let a = c .before .before .before .before .before .before .before .before .args in rw (above (a .core) (a .byte) (omega arith) .1) (c .before .before .class .ensures)
@@ -41,13 +26,13 @@ pub carry-out-spec : {M : Type 1} → statement M
 carry-out-spec =
     tie.close
     (tie.spec
-    im-requires
-    same-length
+    (λ c κs. search needs)
+    (λ c. search needs)
     returns
-    singles-requires
+    (λ c κs. search needs)
     wide-requires
-    same-length-2
+    (λ c. search needs)
     returns-2
     class-requires
-    same-length-3
+    (λ c. search needs)
     returns-3)

@@ -7,21 +7,9 @@ use borrow.Author.Needs.{needs}
 use Rattle.step.proofs.step.Statement.{statement}
 use Rattle.step.proofs.step.Tie as tie
 
-cast-pc : tie.Need-cast-pc
-cast-pc c = search needs
-
 returns : tie.Need-returns
 unfolding stepOf
 returns c = let a = c .before .before .before .args in simp (le-ltb (a .s .pc .0) (length (a .image .now)) (omega arith)) (refl, refl)
-
-slice-read-byte : tie.Need-slice-read-byte
-slice-read-byte c = search needs
-
-carry-out-requires : tie.Need-carry-out-requires
-carry-out-requires c κs = search needs
-
-same-length : tie.Need-same-length
-same-length c = search needs
 
 returns-2 : tie.Need-returns-2
 unfolding stepOf
@@ -29,4 +17,4 @@ returns-2 c = let a = c .before .before .before .before .before .before .before 
 
 pub step-spec : {M : Type 1} → statement M
 step-spec =
-    tie.close (tie.spec cast-pc returns slice-read-byte carry-out-requires same-length returns-2)
+    tie.close (tie.spec (λ c. search needs) returns (λ c. search needs) (λ c κs. search needs) (λ c. search needs) returns-2)

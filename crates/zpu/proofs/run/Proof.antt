@@ -6,9 +6,6 @@ use Rattle.laws.proofs.Turns.{good, run-image, run-start, run-goes}
 use Rattle.zpu.proofs.run.Statement.{statement}
 use Rattle.zpu.proofs.run.Tie as tie
 
-good-length-requires : tie.Need-good-length-requires
-good-length-requires c κs = search needs
-
 returns : tie.Need-returns
 returns c =
     let a = c .before .before .before .before .args in
@@ -18,9 +15,6 @@ steps-requires : tie.Need-steps-requires
 steps-requires c κs =
     let g = good (length (c .before .before .before .before .before .args .image .now)) (cc) in
     (g .0, g .1, omega arith)
-
-same-length : tie.Need-same-length
-same-length c = search needs
 
 returns-2 : tie.Need-returns-2
 returns-2 c =
@@ -34,4 +28,4 @@ returns-3 c =
 
 pub run-spec : {M : Type 1} → statement M
 run-spec =
-    tie.close (tie.spec good-length-requires returns steps-requires same-length returns-2 returns-3)
+    tie.close (tie.spec (λ c κs. search needs) returns steps-requires (λ c. search needs) returns-2 returns-3)

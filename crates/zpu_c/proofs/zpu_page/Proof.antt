@@ -4,25 +4,13 @@ use Rattle.microcode.specs.Laying.{number}
 use Rattle.zpu_c.proofs.zpu_page.Statement.{statement}
 use Rattle.zpu_c.proofs.zpu_page.Tie as tie
 
-lay-requires : tie.Need-lay-requires
-lay-requires c κs = search needs
-
 enum-told : tie.Need-enum-told
 enum-told c = search needs
-
-enum-told-2 : tie.Need-enum-told-2
-enum-told-2 c = search needs
-
-same-length : tie.Need-same-length
-same-length c = search needs
 
 returns : tie.Need-returns
 returns c =
     let l = c .before .before .before .before .lay in
     (sym (ap number (c .enum-told .given .1)) ∙ l .ensures .0, l .ensures .1)
-
-same-length-2 : tie.Need-same-length-2
-same-length-2 c = search needs
 
 returns-2 : tie.Need-returns-2
 returns-2 c =
@@ -32,4 +20,4 @@ returns-2 c =
 pub zpu-page-spec : {M : Type 1} → statement M
 zpu-page-spec =
     tie.close
-    (tie.spec lay-requires enum-told enum-told-2 same-length returns same-length-2 returns-2)
+    (tie.spec (λ c κs. search needs) enum-told (λ c. search needs) (λ c. search needs) returns (λ c. search needs) returns-2)

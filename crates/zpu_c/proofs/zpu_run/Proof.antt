@@ -7,29 +7,11 @@ use borrow.Author.Needs.{needs}
 use Rattle.zpu_c.proofs.zpu_run.Statement.{statement}
 use Rattle.zpu_c.proofs.zpu_run.Tie as tie
 
-core-of-requires : tie.Need-core-of-requires
-core-of-requires c κs = search needs
-
-state-of-requires : tie.Need-state-of-requires
-state-of-requires c κs = search needs
-
-run-requires : tie.Need-run-requires
-run-requires c κs = search needs
-
-number-requires : tie.Need-number-requires
-number-requires c κs = search needs
-
 cast-t12 : tie.Need-cast-t12
 cast-t12 c =
     let a = c .before .before .before .before .before .before .before .before .before .args in
     let s = c .before .before .before .before .before .state-of in
     omega (arith, told-fits (c .before .before .before .before .before .before .before .core-of .result) (a .limit) (place (a .image .now) (s .result)) (c .before .before .before .before .run .result) _ (c .before .before .before .before .run .ensures) (s .ensures .1))
-
-flag-of-requires : tie.Need-flag-of-requires
-flag-of-requires c κs = search needs
-
-same-length : tie.Need-same-length
-same-length c = search needs
 
 returns : tie.Need-returns
 returns c =
@@ -47,11 +29,11 @@ pub zpu-run-spec : {M : Type 1} → statement M
 zpu-run-spec =
     tie.close
     (tie.spec
-    core-of-requires
-    state-of-requires
-    run-requires
-    number-requires
+    (λ c κs. search needs)
+    (λ c κs. search needs)
+    (λ c κs. search needs)
+    (λ c κs. search needs)
     cast-t12
-    flag-of-requires
-    same-length
+    (λ c κs. search needs)
+    (λ c. search needs)
     returns)

@@ -7,21 +7,6 @@ use borrow.Author.Needs.{needs}
 use Rattle.zpurun.proofs.main.Statement.{statement}
 use Rattle.zpurun.proofs.main.Tie as tie
 
-slice-aggregate-read-full : tie.Need-slice-aggregate-read-full
-slice-aggregate-read-full c = search needs
-
-read-full-requires : tie.Need-read-full-requires
-read-full-requires c κs = search needs
-
-array-share-prefix-input : tie.Need-array-share-prefix-input
-array-share-prefix-input c = search needs
-
-slice-aggregate-report : tie.Need-slice-aggregate-report
-slice-aggregate-report c = search needs
-
-report-requires : tie.Need-report-requires
-report-requires c κs = search needs
-
 array-share-prefix-out : tie.Need-array-share-prefix-out
 array-share-prefix-out c = omega (arith, c .report .ensures .0, simp length-append at (ap length (c .report .ensures .1)))
 
@@ -31,22 +16,16 @@ slice-aggregate-write-all c =
     let fits : r .result ≤ length (r .last .1 .0) = omega (arith, r .ensures .0, simp length-append at (ap length (r .ensures .1))) in
     sym (length-take-le (r .result) (r .last .1 .0) fits)
 
-write-all-requires : tie.Need-write-all-requires
-write-all-requires c κs = search needs
-
-returns : tie.Need-returns
-returns c = search needs
-
 pub main-spec : {M : Type 1} → statement M
 main-spec =
     tie.close
     (tie.spec
-    slice-aggregate-read-full
-    read-full-requires
-    array-share-prefix-input
-    slice-aggregate-report
-    report-requires
+    (λ c. search needs)
+    (λ c κs. search needs)
+    (λ c. search needs)
+    (λ c. search needs)
+    (λ c κs. search needs)
     array-share-prefix-out
     slice-aggregate-write-all
-    write-all-requires
-    returns)
+    (λ c κs. search needs)
+    (λ c. search needs))

@@ -4,14 +4,8 @@ use borrow.Author.Needs.{needs}
 use Rattle.core_instructions.proofs.immediate.extended.Statement.{statement}
 use Rattle.core_instructions.proofs.immediate.extended.Tie as tie
 
-add-wrapping-sub-u32 : tie.Need-add-wrapping-sub-u32
-add-wrapping-sub-u32 c = search needs
-
-wrapping-sub-u32-requires : tie.Need-wrapping-sub-u32-requires
-wrapping-sub-u32-requires c κs = search needs
-
 returns : tie.Need-returns
 returns c = sign-extended (c .before .args .v) _ (omega arith) (omega arith) (c .wrapping-sub-u32 .ensures)
 
 pub extended-spec : {M : Type 1} → statement M
-extended-spec = tie.close (tie.spec add-wrapping-sub-u32 wrapping-sub-u32-requires returns)
+extended-spec = tie.close (tie.spec (λ c. search needs) (λ c κs. search needs) returns)

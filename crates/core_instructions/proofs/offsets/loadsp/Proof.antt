@@ -15,27 +15,9 @@ returns : tie.Need-returns
 unfolding effectOf row
 returns c = let a = c .before .before .args in simp (le-ltb 0 (a .s .sp .0) (omega arith)) (rw (either-way (ltb (a .s .sp .0 + a .n) (length (a .image .now) / 4))) (refl, refl))
 
-sub-to : tie.Need-sub-to
-sub-to c = search needs
-
-add-from : tie.Need-add-from
-add-from c = search needs
-
 returns-2 : tie.Need-returns-2
 unfolding effectOf row
 returns-2 c = let a = c .before .before .before .args in rw (word-past (a .image .now) (a .s) (a .n) _ (omega arith)) (refl, refl)
-
-read-word-requires : tie.Need-read-word-requires
-read-word-requires c κs = search needs
-
-write-word-requires : tie.Need-write-word-requires
-write-word-requires c κs = search needs
-
-next-requires : tie.Need-next-requires
-next-requires c κs = search needs
-
-same-length : tie.Need-same-length
-same-length c = search needs
 
 returns-3 : tie.Need-returns-3
 unfolding effectOf row
@@ -46,11 +28,11 @@ loadsp-spec =
     tie.close
     (tie.spec
     returns
-    sub-to
-    add-from
+    (λ c. search needs)
+    (λ c. search needs)
     returns-2
-    read-word-requires
-    write-word-requires
-    next-requires
-    same-length
+    (λ c κs. search needs)
+    (λ c κs. search needs)
+    (λ c κs. search needs)
+    (λ c. search needs)
     returns-3)

@@ -13,18 +13,9 @@ returns : tie.Need-returns
 unfolding effectOf row
 returns c = let a = c .before .before .args in simp (le-ltb (a .s .sp .0) (length (a .image .now) / 4) (omega arith)) (refl, refl)
 
-read-word-requires : tie.Need-read-word-requires
-read-word-requires c κs = search needs
-
-word-requires : tie.Need-word-requires
-word-requires c κs = search needs
-
 returns-2 : tie.Need-returns-2
 unfolding effectOf row
 returns-2 c = let a = c .before .before .before .before .before .args in simp (lt-ltb (a .s .sp .0) (length (a .image .now) / 4) (omega arith), lt-leb (word (a .image .now) (a .s .sp .0) / 4) (length (a .image .now) / 4) (omega arith)) (refl, refl)
-
-next-requires : tie.Need-next-requires
-next-requires c κs = search needs
 
 returns-3 : tie.Need-returns-3
 unfolding effectOf row
@@ -32,4 +23,4 @@ returns-3 c = let a = c .before .before .before .before .before .before .args in
 
 pub popsp-spec : {M : Type 1} → statement M
 popsp-spec =
-    tie.close (tie.spec returns read-word-requires word-requires returns-2 next-requires returns-3)
+    tie.close (tie.spec returns (λ c κs. search needs) (λ c κs. search needs) returns-2 (λ c κs. search needs) returns-3)

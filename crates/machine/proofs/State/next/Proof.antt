@@ -2,11 +2,8 @@ use borrow.Author.Needs.{needs}
 use Rattle.machine.proofs.State.next.Statement.{statement}
 use Rattle.machine.proofs.State.next.Tie as tie
 
-following-requires : tie.Need-following-requires
-following-requires c κs = search needs
-
 returns : tie.Need-returns
 returns c = cc
 
 pub next-spec : {M : Type 1} → statement M
-next-spec = tie.close (tie.spec following-requires returns)
+next-spec = tie.close (tie.spec (λ c κs. search needs) returns)

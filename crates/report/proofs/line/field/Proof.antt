@@ -8,14 +8,8 @@ use borrow.Author.Needs.{needs}
 use Rattle.report.proofs.line.field.Statement.{statement}
 use Rattle.report.proofs.line.field.Tie as tie
 
-byte-requires : tie.Need-byte-requires
-byte-requires c κs = search needs
-
 number-requires : tie.Need-number-requires
 number-requires c κs = omega (arith, at-most 9 (c .before .before .before .before .before .before .args .n) (omega arith))
-
-same-length : tie.Need-same-length
-same-length c = search needs
 
 returns : tie.Need-returns
 returns c =
@@ -24,4 +18,4 @@ returns c =
     (p, omega (arith, p .0, at-most 9 (a .n) (omega arith)))
 
 pub field-spec : {M : Type 1} → statement M
-field-spec = tie.close (tie.spec byte-requires number-requires same-length returns)
+field-spec = tie.close (tie.spec (λ c κs. search needs) number-requires (λ c. search needs) returns)

@@ -11,15 +11,6 @@ use borrow.Author.Needs.{needs}
 use Rattle.report.proofs.session.ran.Statement.{statement}
 use Rattle.report.proofs.session.ran.Tie as tie
 
-lay-requires : tie.Need-lay-requires
-lay-requires c κs = search needs
-
-run-requires : tie.Need-run-requires
-run-requires c κs = search needs
-
-same-length : tie.Need-same-length
-same-length c = search needs
-
 returns : tie.Need-returns
 unfolding session
 returns c =
@@ -32,4 +23,4 @@ returns c =
     ∙ ap (λ (n : ℕ). run (s .args .core) (s .args .limit) (place (laid m) (start n))) (laid-length m (s .pre))
 
 pub ran-spec : {M : Type 1} → statement M
-ran-spec = tie.close (tie.spec lay-requires run-requires same-length returns)
+ran-spec = tie.close (tie.spec (λ c κs. search needs) (λ c κs. search needs) (λ c. search needs) returns)

@@ -17,14 +17,8 @@ line-requires c κs =
     let r = c .before .before .before .before .ran in
     (s .pre .1, ends-inside (a .core) (a .limit) (a .image .now) (s .pre .0) (told (r .result) (r .last .1 .1 .0)) (r .ensures))
 
-same-length : tie.Need-same-length
-same-length c = search needs
-
-same-length-2 : tie.Need-same-length-2
-same-length-2 c = search needs
-
 returns : tie.Need-returns
 returns c = let l = c .before .before .line in (rw (c .before .before .before .before .before .before .before .ran .ensures) at (l .ensures .0), l .ensures .1)
 
 pub session-spec : {M : Type 1} → statement M
-session-spec = tie.close (tie.spec ran-requires line-requires same-length same-length-2 returns)
+session-spec = tie.close (tie.spec ran-requires line-requires (λ c. search needs) (λ c. search needs) returns)

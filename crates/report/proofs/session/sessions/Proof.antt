@@ -12,12 +12,6 @@ use borrow.Author.Needs.{needs}
 use Rattle.report.proofs.session.sessions.Statement.{statement}
 use Rattle.report.proofs.session.sessions.Tie as tie
 
-copy-requires : tie.Need-copy-requires
-copy-requires c κs = search needs
-
-copy-requires-2 : tie.Need-copy-requires-2
-copy-requires-2 c κs = search needs
-
 session-requires : tie.Need-session-requires
 session-requires c κs =
     let copy = c .before .before .before .before .before .before .before .before in
@@ -34,15 +28,6 @@ session-requires-2 c κs =
     let a = s .args in
     let e : copy .copy2 .last .1 .0 ≡ a .input .now = copy .copy2 .ensures .1 ∙ copied (a .input .now) (a .narrow .now) (s .pre .1 .1 .0) in
     (ap (λ (x : List ℕ). runs (length x)) e ∙ s .pre .0, omega (arith, s .pre .1 .1 .1, first .session .ensures .1, first .session .kept .1 .1 .1 .0))
-
-same-length : tie.Need-same-length
-same-length c = search needs
-
-same-length-2 : tie.Need-same-length-2
-same-length-2 c = search needs
-
-same-length-3 : tie.Need-same-length-3
-same-length-3 c = search needs
 
 returns : tie.Need-returns
 unfolding lines
@@ -64,11 +49,11 @@ pub sessions-spec : {M : Type 1} → statement M
 sessions-spec =
     tie.close
     (tie.spec
-    copy-requires
-    copy-requires-2
+    (λ c κs. search needs)
+    (λ c κs. search needs)
     session-requires
     session-requires-2
-    same-length
-    same-length-2
-    same-length-3
+    (λ c. search needs)
+    (λ c. search needs)
+    (λ c. search needs)
     returns)

@@ -12,18 +12,6 @@ returns : tie.Need-returns
 unfolding effectOf row
 returns c = let a = c .before .before .args in simp (le-ltb (a .s .sp .0) (length (a .image .now) / 4) (omega arith)) (refl, refl)
 
-read-word-requires : tie.Need-read-word-requires
-read-word-requires c κs = search needs
-
-relative-requires : tie.Need-relative-requires
-relative-requires c κs = search needs
-
-add-t5 : tie.Need-add-t5
-add-t5 c = search needs
-
-jump-requires : tie.Need-jump-requires
-jump-requires c κs = search needs
-
 returns-2 : tie.Need-returns-2
 unfolding effectOf row
 returns-2 c = let a = c .before .before .before .before .before .args in simp (lt-ltb (a .s .sp .0) (length (a .image .now) / 4) (omega arith)) ((cc), refl)
@@ -31,4 +19,4 @@ returns-2 c = let a = c .before .before .before .before .before .args in simp (l
 pub poppcrel-spec : {M : Type 1} → statement M
 poppcrel-spec =
     tie.close
-    (tie.spec returns read-word-requires relative-requires add-t5 jump-requires returns-2)
+    (tie.spec returns (λ c κs. search needs) (λ c κs. search needs) (λ c. search needs) (λ c κs. search needs) returns-2)

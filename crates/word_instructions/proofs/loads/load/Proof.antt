@@ -13,30 +13,9 @@ returns : tie.Need-returns
 unfolding effectOf row
 returns c = let a = c .before .before .args in simp (le-ltb (a .s .sp .0) (length (a .image .now) / 4) (omega arith)) (refl, refl)
 
-read-word-requires : tie.Need-read-word-requires
-read-word-requires c κs = search needs
-
-cast-if2 : tie.Need-cast-if2
-cast-if2 c = search needs
-
-same-length : tie.Need-same-length
-same-length c = search needs
-
 returns-2 : tie.Need-returns-2
 unfolding effectOf row
 returns-2 c = let a = c .before .before .before .before .before .args in simp (lt-ltb (a .s .sp .0) (length (a .image .now) / 4) (omega arith), le-ltb (word (a .image .now) (a .s .sp .0)) (length (a .image .now)) (omega arith)) (refl, refl)
-
-read-requires : tie.Need-read-requires
-read-requires c κs = search needs
-
-write-word-requires : tie.Need-write-word-requires
-write-word-requires c κs = search needs
-
-next-requires : tie.Need-next-requires
-next-requires c κs = search needs
-
-same-length-2 : tie.Need-same-length-2
-same-length-2 c = search needs
 
 returns-3 : tie.Need-returns-3
 unfolding effectOf row
@@ -47,12 +26,12 @@ load-spec =
     tie.close
     (tie.spec
     returns
-    read-word-requires
-    cast-if2
-    same-length
+    (λ c κs. search needs)
+    (λ c. search needs)
+    (λ c. search needs)
     returns-2
-    read-requires
-    write-word-requires
-    next-requires
-    same-length-2
+    (λ c κs. search needs)
+    (λ c κs. search needs)
+    (λ c κs. search needs)
+    (λ c. search needs)
     returns-3)

@@ -10,37 +10,13 @@ use borrow.Author.Needs.{needs}
 use Rattle.word_instructions.proofs.operations.division.Statement.{statement}
 use Rattle.word_instructions.proofs.operations.division.Tie as tie
 
-add-second : tie.Need-add-second
-add-second c = search needs
-
 returns : tie.Need-returns
 unfolding effectOf row
 returns c = let a = c .before .before .before .args in rw (offset-past (a .image .now) (a .s) 1 _ (omega arith)) (refl, refl)
 
-read-word-requires : tie.Need-read-word-requires
-read-word-requires c κs = search needs
-
-same-length : tie.Need-same-length
-same-length c = search needs
-
 returns-2 : tie.Need-returns-2
 unfolding effectOf row
 returns-2 c = let a = c .before .before .before .before .before .before .args in simp (lt-ltb (a .s .sp .0) (length (a .image .now) / 4) (omega arith), lt-ltb (a .s .sp .0 + 1) (length (a .image .now) / 4) (omega arith), le-ltb 0 (word (a .image .now) (a .s .sp .0)) (omega arith)) (refl, refl)
-
-read-word-requires-2 : tie.Need-read-word-requires-2
-read-word-requires-2 c κs = search needs
-
-division-requires : tie.Need-division-requires
-division-requires c κs = search needs
-
-write-word-requires : tie.Need-write-word-requires
-write-word-requires c κs = search needs
-
-next-requires : tie.Need-next-requires
-next-requires c κs = search needs
-
-same-length-2 : tie.Need-same-length-2
-same-length-2 c = search needs
 
 returns-3 : tie.Need-returns-3
 unfolding effectOf row
@@ -50,14 +26,14 @@ pub division-spec : {M : Type 1} → statement M
 division-spec =
     tie.close
     (tie.spec
-    add-second
+    (λ c. search needs)
     returns
-    read-word-requires
-    same-length
+    (λ c κs. search needs)
+    (λ c. search needs)
     returns-2
-    read-word-requires-2
-    division-requires
-    write-word-requires
-    next-requires
-    same-length-2
+    (λ c κs. search needs)
+    (λ c κs. search needs)
+    (λ c κs. search needs)
+    (λ c κs. search needs)
+    (λ c. search needs)
     returns-3)
