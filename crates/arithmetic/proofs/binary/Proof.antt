@@ -3,9 +3,6 @@ use borrow.Author.Needs.{needs}
 use Rattle.arithmetic.proofs.binary.Statement.{statement}
 use Rattle.arithmetic.proofs.binary.Tie as tie
 
-enum-told : tie.Need-enum-told
-enum-told c = search needs
-
 returns : tie.Need-returns
 returns c = rw (c .before .enum-told .given .1) (c .wrapping-add-u32 .ensures)
 
@@ -55,7 +52,7 @@ pub binary-spec : {M : Type 1} → statement M
 binary-spec =
     tie.close
     (tie.spec
-    enum-told
+    (λ c. search needs)
     (λ c κs. search needs)
     (λ c. search needs)
     (λ c. search needs)

@@ -3,9 +3,6 @@ use borrow.Author.Needs.{needs}
 use Rattle.arithmetic.proofs.unary.Statement.{statement}
 use Rattle.arithmetic.proofs.unary.Tie as tie
 
-enum-told : tie.Need-enum-told
-enum-told c = search needs
-
 returns : tie.Need-returns
 returns c = rw (c .enum-told .given .1)
 
@@ -19,7 +16,7 @@ pub unary-spec : {M : Type 1} → statement M
 unary-spec =
     tie.close
     (tie.spec
-    enum-told
+    (λ c. search needs)
     (λ c. search needs)
     (λ c κs. search needs)
     (λ c. search needs)

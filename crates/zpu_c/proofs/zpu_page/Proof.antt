@@ -4,9 +4,6 @@ use Rattle.microcode.specs.Laying.{number}
 use Rattle.zpu_c.proofs.zpu_page.Statement.{statement}
 use Rattle.zpu_c.proofs.zpu_page.Tie as tie
 
-enum-told : tie.Need-enum-told
-enum-told c = search needs
-
 returns : tie.Need-returns
 returns c =
     let l = c .before .before .before .before .lay in
@@ -20,4 +17,4 @@ returns-2 c =
 pub zpu-page-spec : {M : Type 1} → statement M
 zpu-page-spec =
     tie.close
-    (tie.spec (λ c κs. search needs) enum-told (λ c. search needs) (λ c. search needs) returns (λ c. search needs) returns-2)
+    (tie.spec (λ c κs. search needs) (λ c. search needs) (λ c. search needs) (λ c. search needs) returns (λ c. search needs) returns-2)

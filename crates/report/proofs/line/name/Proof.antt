@@ -3,9 +3,6 @@ use borrow.Author.Needs.{needs}
 use Rattle.report.proofs.line.name.Statement.{statement}
 use Rattle.report.proofs.line.name.Tie as tie
 
-enum-told : tie.Need-enum-told
-enum-told c = search needs
-
 returns : tie.Need-returns
 returns c = rw (c .before .before .before .before .before .enum-told .given .1) (c .before .before .letters .ensures, omega (arith, c .before .before .letters .ensures .0))
 
@@ -16,7 +13,7 @@ pub name-spec : {M : Type 1} → statement M
 name-spec =
     tie.close
     (tie.spec
-    enum-told
+    (λ c. search needs)
     (λ c. search needs)
     (λ c κs. search needs)
     (λ c. search needs)

@@ -5,9 +5,6 @@ use borrow.Author.Needs.{needs}
 use Rattle.word_instructions.proofs.loads.read.Statement.{statement}
 use Rattle.word_instructions.proofs.loads.read.Tie as tie
 
-enum-told : tie.Need-enum-told
-enum-told c = search needs
-
 returns : tie.Need-returns
 returns c = rw (c .before .before .enum-told .given .1) (cc)
 
@@ -21,7 +18,7 @@ pub read-spec : {M : Type 1} → statement M
 read-spec =
     tie.close
     (tie.spec
-    enum-told
+    (λ c. search needs)
     (λ c κs. search needs)
     (λ c κs. search needs)
     (λ c. search needs)
