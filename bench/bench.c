@@ -223,11 +223,11 @@ static void compare(void)
     printf("\n");
 }
 
-/* Millions of steps a second in calls of `each` steps: as many calls as make 10^7 steps, at least one. */
+/* Millions of steps a second in calls of `each` steps: as many calls as make 10^8 steps, at least one. */
 static double rate(uint32_t core, uint32_t each)
 {
     zpu_state state = guest_load(&guests[0], image, FOREVER);
-    uint32_t calls = each < 10000000 ? 10000000 / each : 1, k;
+    uint32_t calls = each < 100000000 ? 100000000 / each : 1, k;
     double from = now();
 
     for (k = 0; k < calls; k++) {

@@ -44,7 +44,7 @@ enum {
     ZPU_START = 3,   /* the given sp exceeds length / 4 */
     ZPU_FETCH = 4,   /* the program counter is length or more */
     ZPU_ILLEGAL = 5, /* the byte is no instruction of this core */
-    ZPU_STACK = 6,   /* a stack word, or the new sp, outside the image */
+    ZPU_STACK = 6,   /* a stack word outside the image, or a new sp over length / 4 */
     ZPU_ADDRESS = 7, /* a data address is length or more */
     ZPU_DIVIDE = 8   /* DIV or MOD by 0 */
 };
@@ -65,7 +65,7 @@ typedef struct {
  * Runs from `start` until `limit` steps are done, a BREAK, or a refusal.
  *
  * After ZPU_IMAGE or ZPU_START the image is untouched, the steps are 0 and the
- * state is the given one. After any other refusal the image and the state are
+ * state is the given one, its flag as 0 or 1. After any other refusal the image and the state are
  * those before the refused instruction, whose address is in `pc`. After
  * ZPU_BREAK `pc` is past the byte 0.
  */

@@ -39,7 +39,7 @@ CleanWords d (w ∷ ws) = Clean d (4 * w) 4 × CleanWords d ws
 abbrev pub instruction : Place → Instr
 instruction p = decode Wide (fetched p)
 
--- what the mission asks of a step from p, d being the dirt before it
+-- what is asked of a step from p, d being the dirt before it
 pub record Allowed (p : Place) (d : Dirt) : Type 0 where
   pub core-or-short : T (core (fetched p) || short (fetched p))
   -- none writes to the page
