@@ -12,7 +12,7 @@ use Rattle.arithmetic.specs.declared.BinOp.the-variants.{Add, And, Or, L
 use Rattle.arithmetic.specs.declared.DivOp.{DivOp}
 use Rattle.arithmetic.specs.declared.DivOp.the-variants.{Div, Mod}
 
--- what a single steps of a shift multiply or divide by: after 32 every bit is the filling bit, and further steps change nothing
+-- what `a` single steps of a shift multiply or divide by: after 32 every bit is the filling bit, and further steps change nothing
 abbrev pub shiftFactor : ℕ → ℕ
 shiftFactor a = 2 ^ min a 32
 

@@ -10,7 +10,7 @@ use lib.Dec.{eqb}
 use borrow.Author.Tests.{lt-ltb, le-ltb, eq-eqb, ne-eqb}
 use Rattle.machine.specs.declared.Core.the-variants.{Wide}
 use Rattle.machine.specs.Instructions.{Instr, Instr.ADDSP, Instr.ILLEGAL, low, wide, first, middle, decode}
-use Rattle.dispatch.specs.Words.{oneOf, words}
+use Rattle.dispatch.specs.Families.{oneOf, families}
 
 -- what the last arm of a match on the keys knows, T before it
 abbrev pub NoneOf : Type 0 → List ℕ → ℕ → Type 0
@@ -46,9 +46,9 @@ abbrev pub others : List ℕ
 others = 0 ∷ 2 ∷ 4 ∷ 11 ∷ 13 ∷ 45 ∷ 55 ∷ 56 ∷ 57 ∷ 59 ∷ 61 ∷ 63 ∷ []
 
 abbrev listed : ℕ → Bool
-listed n = oneOf words n || oneOf others n
+listed n = oneOf families n || oneOf others n
 
-pub rest : (b : ℕ) → b < 64 → oneOf words b ≡ false → oneOf others b ≡ false → decode Wide b ≡ cond (eqb (b / 16) 1) (ADDSP (b % 16)) ILLEGAL
+pub rest : (b : ℕ) → b < 64 → oneOf families b ≡ false → oneOf others b ≡ false → decode Wide b ≡ cond (eqb (b / 16) 1) (ADDSP (b % 16)) ILLEGAL
 unfolding decode first middle
 rest b h w m =
     let e : listed b ≡ false = rw (w, m) refl in

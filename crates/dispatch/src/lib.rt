@@ -14,7 +14,7 @@ ghost use Rattle.machine.specs.declared.Core.the-variants.{Wide};
 ghost use Rattle.machine.specs.Table.{effectOf};
 ghost use Rattle.machine.specs.Instructions.{Instr.ADDSP, Instr.ILLEGAL, decode};
 ghost use Rattle.machine.specs.Inner.{Ready, Carried};
-ghost use Rattle.dispatch.specs.Words.{oneOf, words};
+ghost use Rattle.dispatch.specs.Families.{oneOf, families};
 
 // ADDSP is bytes 16 to 31.
 fn addsp_or_illegal(image: &mut [u8], s: State, byte: u8) -> Answer
@@ -27,10 +27,10 @@ fn addsp_or_illegal(image: &mut [u8], s: State, byte: u8) -> Answer
     Answer::Refused(s, Outcome::Illegal)
 }
 
-// The other instructions: the byte is none of `words`.
+// The other instructions: the byte is none of `families`.
 fn others(image: &mut [u8], s: State, byte: u8) -> Answer
     requires { ⌜ Ready (now image) s ⌝ }
-    requires { ⌜ (byte < 64) × (oneOf words byte ≡ false) ⌝ }
+    requires { ⌜ (byte < 64) × (oneOf families byte ≡ false) ⌝ }
     ensures { λ r. ⌜ Carried (now (image .entry)) s (effectOf (now (image .entry)) s (decode Wide byte)) r (now (image .exit)) ⌝ }
 {
     match byte {
@@ -50,7 +50,7 @@ fn others(image: &mut [u8], s: State, byte: u8) -> Answer
     }
 }
 
-// The instructions that work on words, and the others.
+// The families, and the other instructions.
 pub fn wide(image: &mut [u8], s: State, byte: u8) -> Answer
     requires { ⌜ Ready (now image) s ⌝ }
     requires { ⌜ byte < 64 ⌝ }

@@ -1,5 +1,5 @@
 -- Starts that meet the hypotheses of the theorems, so that none of them is empty.
-use Prim.Native.Nat.{ℕ, _≤_}
+use Prim.Native.Nat.{ℕ, _≤_, _<_}
 use mathlib.Core.Path.{_≡_, refl}
 use mathlib.Core.Bool.{false}
 use mathlib.Core.List.{[], _∷_}
@@ -12,7 +12,7 @@ use Rattle.machine.specs.Instructions.{first, decode}
 use Rattle.machine.specs.Table.{row, effectOf, stepOf}
 use Rattle.machine.specs.Run.{Place, place, steps, ended, goodLength, run}
 use Rattle.laws.specs.Ends.{Admitted, Ends}
-use Rattle.laws.proofs.Demand1.{image-refused, start-refused, refusal-leaves-all, entry-hands-back}
+use Rattle.laws.proofs.Demand1.{image-refused, start-refused, refusal-leaves-all, entry-hands-back, image-reason, start-reason}
 use Rattle.laws.proofs.Demand2.{demand2, limit-first, break-on-the-last, refused-uncounted}
 
 abbrev at : ℕ → ℕ → State
@@ -59,3 +59,9 @@ illegal-leaves-all =
 
 no-image-hands-back : (run Wide 7 (place [] (at 0 0)) .steps ≡ 0) × (run Wide 7 (place [] (at 0 0)) .place ≡ place [] (at 0 0))
 no-image-hands-back = entry-hands-back Wide 7 (place [] (at 0 0)) (rw no-image (omega arith)) (rw no-image (omega arith))
+
+no-image-reason : goodLength 0 ≡ false
+no-image-reason = image-reason Wide 7 (place [] (at 0 0)) (rw no-image refl)
+
+past-the-stack-reason : 1 < 2
+past-the-stack-reason = start-reason Narrow 7 (place (0 ∷ 0 ∷ 0 ∷ 0 ∷ []) (at 0 2)) (rw past-the-stack refl)

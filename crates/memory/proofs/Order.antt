@@ -2,6 +2,7 @@
 use Prim.Native.Nat.{ℕ, _+_, _*_, _/_, _%_, _^_, _<_}
 use mathlib.Core.Path.{_≡_, refl, _∙_}
 use native.Mathlib.Omega.{arith}
+use Rattle.memory.specs.Order.{reversed}
 
 module _ (a b c d n : ℕ) (is : n ≡ a + b * 256 + c * 65536 + d * 16777216) where
   pub lowest : a < 256 → n % 256 ≡ a
@@ -15,9 +16,6 @@ module _ (a b c d n : ℕ) (is : n ≡ a + b * 256 + c * 65536 + d * 16777216) w
 
   pub highest : a < 256 → b < 256 → c < 256 → n / 16777216 ≡ d
   highest ha hb hc = omega arith
-
-abbrev pub reversed : ℕ → ℕ
-reversed v = v % 256 * 16777216 + v / 256 % 256 * 65536 + v / 65536 % 256 * 256 + v / 16777216
 
 pub of-four : (a b c d : ℕ) → a < 256 → b < 256 → c < 256 → d < 256 → reversed (a + b * 256 + c * 65536 + d * 16777216) ≡ ((a * 256 + b) * 256 + c) * 256 + d
 of-four a b c d ha hb hc hd =

@@ -3,6 +3,7 @@ ghost use mathlib.Core.Path.{_≡_};
 ghost use Prim.Native.Nat.{ℕ, _+_, _*_, _/_, _%_, _<_, _≤_};
 ghost use lib.ListN.{length, set};
 ghost use Rattle.memory.specs.Memory.{bytes, setBytes, word};
+ghost use Rattle.memory.specs.Order.{reversed};
 
 // The address of a byte: what the program counter is, and what LOAD and STORE take.
 pub struct ByteAddr(pub u32);
@@ -37,7 +38,7 @@ impl WordIndex {
     }
 }
 
-fn wide(b: u8) -> u32
+fn widened(b: u8) -> u32
     ensures { λ r. ⌜ r ≡ b ⌝ }
 {
     b as u32
@@ -50,14 +51,14 @@ fn pair(a: u8, b: u8) -> u32
     a as u32 * 256 + b as u32
 }
 
-// The four bytes of a word in the opposite order.
+// The bytes of a word in the opposite order.
 fn reversed(v: u32) -> u32
-    ensures { λ r. ⌜ r ≡ v % 256 * 16777216 + v / 256 % 256 * 65536 + v / 65536 % 256 * 256 + v / 16777216 ⌝ }
+    ensures { λ r. ⌜ r ≡ reversed v ⌝ }
 {
     v % 256 * 16777216 + v / 256 % 256 * 65536 + v / 65536 % 256 * 256 + v / 16777216
 }
 
-// Four bytes, the highest first; taken the lowest first, as the processor has them, they are one load.
+// Four bytes, the highest first. Taken the lowest first, as the host has them, they are one load.
 fn four(a: u8, b: u8, c: u8, d: u8) -> u32
     ensures { λ r. ⌜ r ≡ ((a * 256 + b) * 256 + c) * 256 + d ⌝ }
 {
@@ -69,7 +70,7 @@ pub fn read_byte(image: &[u8], a: ByteAddr) -> u32
     ensures { λ r. ⌜ r ≡ bytes (now (image .entry)) (a .0) 1 ⌝ }
 {
     let at = a.0 as usize;
-    wide(image[at])
+    widened(image[at])
 }
 
 pub fn read_half(image: &[u8], a: ByteAddr) -> u32
@@ -112,7 +113,7 @@ pub fn write_half(image: &mut [u8], a: ByteAddr, v: u32)
 }
 
 // The four bytes of v, the lowest first: one store.
-fn set_four(image: &mut [u8], at: usize, v: u32)
+fn set_lowest_first(image: &mut [u8], at: usize, v: u32)
     requires { ⌜ at + 3 < length (now image) ⌝ }
     ensures { λ _. ⌜ now (image .exit) ≡ set (set (set (set (now (image .entry)) at (v % 256)) (at + 1) (v / 256 % 256)) (at + 2) (v / 65536 % 256)) (at + 3) (v / 16777216) ⌝ }
 {
@@ -126,5 +127,5 @@ pub fn write_word(image: &mut [u8], w: WordIndex, v: u32)
     requires { ⌜ (w .0 < length (now image) / 4) × (length (now image) ≤ 65536) ⌝ }
     ensures { λ _. ⌜ now (image .exit) ≡ setBytes (now (image .entry)) (4 * w .0) 4 v ⌝ }
 {
-    set_four(image, w.place(), reversed(v));
+    set_lowest_first(image, w.place(), reversed(v));
 }

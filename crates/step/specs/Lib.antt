@@ -1,1 +1,1 @@
-pub mod Singles
+pub mod Dispatched

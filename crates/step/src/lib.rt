@@ -9,11 +9,11 @@ ghost use Rattle.machine.specs.declared.Core.the-variants.{Narrow};
 ghost use Rattle.machine.specs.Table.{effectOf, stepOf};
 ghost use Rattle.machine.specs.Instructions.{inverted, decode};
 ghost use Rattle.machine.specs.Inner.{Ready, Carried};
-ghost use Rattle.step.specs.Singles.{singles};
+ghost use Rattle.step.specs.Dispatched.{dispatched};
 
-// The first byte that the core tells by its class and not by its value.
-fn singles(core: Core) -> u8
-    ensures { λ r. ⌜ r ≡ singles core ⌝ }
+// `dispatch` tells the bytes below this. From it on they are EMULATE, STORESP, LOADSP and IM.
+fn dispatched(core: Core) -> u8
+    ensures { λ r. ⌜ r ≡ dispatched core ⌝ }
 {
     match core {
         Core::Narrow => 32,
@@ -27,8 +27,7 @@ fn inverted(byte: u8) -> u8
     (byte % 32 + 16) % 32
 }
 
-// The classes but for IM.
-fn class(image: &mut [u8], s: State, byte: u8) -> Answer
+fn offset_or_emulate(image: &mut [u8], s: State, byte: u8) -> Answer
     requires { ⌜ Ready (now image) s ⌝ }
     requires { ⌜ (32 ≤ byte) × (byte < 128) ⌝ }
     ensures { λ r. ⌜ Carried (now (image .entry)) s (effectOf (now (image .entry)) s (decode Narrow byte)) r (now (image .exit)) ⌝ }
@@ -42,7 +41,7 @@ fn class(image: &mut [u8], s: State, byte: u8) -> Answer
     core_instructions::emulate(image, s, byte - 32)
 }
 
-// The instruction that the byte is, the commonest first.
+// The instruction that the byte is. IM comes first for speed.
 fn carry_out(core: Core, image: &mut [u8], s: State, byte: u8) -> Answer
     requires { ⌜ Ready (now image) s ⌝ }
     ensures { λ r. ⌜ Carried (now (image .entry)) s (effectOf (now (image .entry)) s (decode core byte)) r (now (image .exit)) ⌝ }
@@ -50,10 +49,10 @@ fn carry_out(core: Core, image: &mut [u8], s: State, byte: u8) -> Answer
     if 128 <= byte {
         return core_instructions::im(image, s, byte);
     }
-    if byte < singles(core) {
+    if byte < dispatched(core) {
         return dispatch::wide(image, s, byte);
     }
-    class(image, s, byte)
+    offset_or_emulate(image, s, byte)
 }
 
 pub fn step(core: Core, image: &mut [u8], s: State) -> Answer

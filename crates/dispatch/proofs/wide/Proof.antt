@@ -1,4 +1,4 @@
-use Rattle.dispatch.specs.Words.{words}
+use Rattle.dispatch.specs.Families.{families}
 use Rattle.dispatch.proofs.Rest.{none}
 use Rattle.machine.specs.Instructions.{decode, first, middle}
 use borrow.Author.Needs.{needs}
@@ -36,7 +36,7 @@ wide-spec =
     (λ c κs. search needs)
     (λ c κs. search needs)
     (λ c κs. search needs)
-    (λ c κs. search (needs, none words (c .before .before .before .args .byte) (c .before .match .rest)))
+    (λ c κs. search (needs, none families (c .before .before .before .args .byte) (c .before .match .rest)))
     (λ c. search needs)
     (λ c. rw (c .before .before .before .before .match .keys1) (c .before .before .binary .ensures))
     (λ c. search needs)

@@ -16,11 +16,11 @@ wide-requires c κs = let a = c .before .before .before .before .before .args in
 returns-2 : tie.Need-returns-2
 returns-2 c = let a = c .before .before .before .before .before .before .before .before .args in rw (below (a .core) (a .byte) (omega arith) .1) (c .before .before .wide .ensures)
 
-class-requires : tie.Need-class-requires
-class-requires c κs = let a = c .before .before .before .before .before .args in search (needs, above (a .core) (a .byte) (omega arith) .0)
+offset-or-emulate-requires : tie.Need-offset-or-emulate-requires
+offset-or-emulate-requires c κs = let a = c .before .before .before .before .before .args in search (needs, above (a .core) (a .byte) (omega arith) .0)
 
 returns-3 : tie.Need-returns-3
-returns-3 c = let a = c .before .before .before .before .before .before .before .before .args in rw (above (a .core) (a .byte) (omega arith) .1) (c .before .before .class .ensures)
+returns-3 c = let a = c .before .before .before .before .before .before .before .before .args in rw (above (a .core) (a .byte) (omega arith) .1) (c .before .before .offset-or-emulate .ensures)
 
 pub carry-out-spec : {M : Type 1} → statement M
 carry-out-spec =
@@ -33,6 +33,6 @@ carry-out-spec =
     wide-requires
     (λ c. search needs)
     returns-2
-    class-requires
+    offset-or-emulate-requires
     (λ c. search needs)
     returns-3)

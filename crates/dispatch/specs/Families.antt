@@ -1,4 +1,4 @@
--- The bytes below 64 whose instructions work on words.
+-- The bytes below 64 that word_instructions serves: members of a family, which differ in an operation or a width.
 use Prim.Native.Nat.{ℕ}
 use mathlib.Core.Bool.{Bool, false, _||_}
 use mathlib.Core.List.{List, [], _∷_}
@@ -8,6 +8,6 @@ abbrev pub oneOf : List ℕ → ℕ → Bool
 oneOf [] n = false
 oneOf (k ∷ ks) n = eqb n k || oneOf ks n
 
-abbrev pub words : List ℕ
-words =
+abbrev pub families : List ℕ
+families =
     5 ∷ 6 ∷ 7 ∷ 8 ∷ 9 ∷ 10 ∷ 12 ∷ 34 ∷ 35 ∷ 36 ∷ 37 ∷ 38 ∷ 39 ∷ 41 ∷ 42 ∷ 43 ∷ 44 ∷ 46 ∷ 47 ∷ 48 ∷ 49 ∷ 50 ∷ 51 ∷ 52 ∷ 53 ∷ 54 ∷ []

@@ -2,8 +2,8 @@ use native.Mathlib.Omega.{arith}
 use borrow.Author.Tests.{lt-ltb, le-ltb}
 use Rattle.machine.specs.Instructions.{decode, middle}
 use borrow.Author.Needs.{needs}
-use Rattle.step.proofs.class.Statement.{statement}
-use Rattle.step.proofs.class.Tie as tie
+use Rattle.step.proofs.offset_or_emulate.Statement.{statement}
+use Rattle.step.proofs.offset_or_emulate.Tie as tie
 
 returns : tie.Need-returns
 unfolding decode middle
@@ -17,8 +17,8 @@ returns-3 : tie.Need-returns-3
 unfolding decode middle
 returns-3 c = let b = c .before .before .before .before .before .before .before .args .byte in simp (le-ltb b 32 (omega arith), lt-ltb b 64 (omega arith)) (c .before .before .emulate .ensures)
 
-pub class-spec : {M : Type 1} → statement M
-class-spec =
+pub offset-or-emulate-spec : {M : Type 1} → statement M
+offset-or-emulate-spec =
     tie.close
     (tie.spec
     (λ c κs. search needs)
