@@ -2,7 +2,7 @@
 
 use crate::machine::{Core, End, State};
 use crate::report::Report;
-use crate::subject::{Own, Subject};
+use crate::subject::{outcome_text, Own, Subject};
 
 #[derive(Clone, Copy, PartialEq, Eq, Debug)]
 pub enum Call {
@@ -27,9 +27,6 @@ impl Case<'_> {
     }
 }
 
-/// Bytes behind the image that nobody may touch.
-const FENCE: [u8; 8] = [0xA5; 8];
-
 const SHORT_IMAGE: usize = 64;
 
 pub struct Bench<'a> {
@@ -49,35 +46,31 @@ impl<'a> Bench<'a> {
     /// Compares and reports. Gives this program's end if the subject's is the same.
     pub fn compare(&mut self, case: &Case, name: impl FnOnce() -> String) -> Option<End> {
         let (ours, theirs) = self.both(case);
-        if ours == theirs && self.same_bytes(case) {
+        if ours == theirs && self.ours == self.theirs {
             self.report.pass();
             return Some(ours);
         }
-        let (described, difference) = (self.describe(case), self.difference(case, ours, theirs));
+        let (described, difference) = (self.describe(case), self.difference(ours, theirs));
         self.report.fail(|| format!("{}: {described}: {difference}", name()));
         None
     }
 
     fn both(&mut self, case: &Case) -> (End, End) {
-        let length = case.image.len();
-        self.ours.clear();
-        self.ours.extend_from_slice(case.image);
-        self.theirs.clear();
-        self.theirs.extend_from_slice(case.image);
-        self.theirs.extend_from_slice(&FENCE);
-        let theirs = case.carry_out(self.subject, &mut self.theirs[..length]);
+        for copy in [&mut self.ours, &mut self.theirs] {
+            copy.clear();
+            copy.extend_from_slice(case.image);
+        }
+        let theirs = case.carry_out(self.subject, &mut self.theirs);
         (case.carry_out(&Own, &mut self.ours), theirs)
     }
 
-    fn same_bytes(&self, case: &Case) -> bool {
-        let (image, fence) = self.theirs.split_at(case.image.len());
-        image == self.ours && fence == FENCE
-    }
-
-    fn difference(&self, case: &Case, ours: End, theirs: End) -> String {
+    fn difference(&self, ours: End, theirs: End) -> String {
         let mut parts = Vec::new();
+        if theirs.outcome != ours.outcome {
+            let given = outcome_text(theirs.outcome);
+            parts.push(format!("outcome {given} where {} is due", ours.outcome));
+        }
         let numbers = [
-            ("outcome", ours.outcome, theirs.outcome),
             ("steps", ours.steps, theirs.steps),
             ("counter", ours.state.pc, theirs.state.pc),
             ("sp", ours.state.sp, theirs.state.sp),
@@ -88,13 +81,9 @@ impl<'a> Bench<'a> {
                 parts.push(format!("{name} {given} where {wanted} is due"));
             }
         }
-        let (image, fence) = self.theirs.split_at(case.image.len());
-        if let Some(at) = (0..image.len()).find(|&at| image[at] != self.ours[at]) {
-            parts
-                .push(format!("byte {at} is {:02X} where {:02X} is due", image[at], self.ours[at]));
-        }
-        if fence != FENCE {
-            parts.push("bytes behind the image were written".to_string());
+        let mut bytes = self.theirs.iter().zip(&self.ours).enumerate();
+        if let Some((at, (given, wanted))) = bytes.find(|(_, (given, wanted))| given != wanted) {
+            parts.push(format!("byte {at} is {given:02X} where {wanted:02X} is due"));
         }
         parts.join(", ")
     }

@@ -1,7 +1,8 @@
 //! The product behind its C boundary.
 
+use crate::dirt::PAGE;
 use crate::machine::{Core, End, State};
-use crate::subject::Subject;
+use crate::subject::{Subject, NOT_A_FLAG, OUTSIDE};
 
 #[repr(C)]
 #[derive(Clone, Copy)]
@@ -24,19 +25,22 @@ extern "C" {
     fn zpu_page(image: *mut u8, length: usize) -> u32;
 }
 
-/// Stands for a flag that came back as neither 0 nor 1. No machine gives this outcome.
-const NOT_A_FLAG: u32 = u32::MAX;
-
 /// The boundary takes any number but 0 as a flag that is set.
 const SET: [u32; 5] = [1, 2, 256, 0x8000_0000, u32::MAX];
 /// The boundary takes any number but 1 as the narrow core.
 const NARROW: [u32; 5] = [0, 2, 257, 0x8000_0001, u32::MAX];
 
+const VARIANTS: usize = 5;
+
+/// Bytes around a lent image that nobody may write: a page behind it, and a page and the variant
+/// in front, so that images lie at different places in a machine word.
+const FENCE: [u8; PAGE + VARIANTS] = [0xA5; PAGE + VARIANTS];
+
 pub struct Library;
 
 /// Varies with the start alone, so that a case run again passes the same numbers.
 fn variant(start: State) -> usize {
-    (start.pc ^ start.sp.rotate_left(7)) as usize % 5
+    (start.pc ^ start.sp.rotate_left(7)) as usize % VARIANTS
 }
 
 fn to_c(start: State) -> ZpuState {
@@ -51,26 +55,49 @@ fn core_number(core: Core, start: State) -> u32 {
     }
 }
 
-fn from_c(end: ZpuEnd) -> End {
-    let ZpuState { pc, sp, flag } = end.state;
-    End {
-        outcome: if flag > 1 { NOT_A_FLAG } else { end.outcome },
-        steps: end.steps,
-        state: State { pc, sp, flag: flag != 0 },
+impl Library {
+    /// Makes the call on a copy of the image between two fences. Gives its answer, and whether
+    /// both fences still stand.
+    fn lend<T>(
+        &self,
+        image: &mut [u8],
+        variant: usize,
+        call: impl FnOnce(*mut u8, usize) -> T,
+    ) -> (T, bool) {
+        let (before, behind) = (&FENCE[..PAGE + variant], &FENCE[..PAGE]);
+        let (first, length) = (before.len(), image.len());
+        let mut lent = [before, image, behind].concat();
+        let answer = call(lent.as_mut_ptr().wrapping_add(first), length);
+        image.copy_from_slice(&lent[first..first + length]);
+        (answer, lent[..first] == *before && lent[first + length..] == *behind)
+    }
+
+    fn end(&self, (end, fenced): (ZpuEnd, bool)) -> End {
+        let ZpuState { pc, sp, flag } = end.state;
+        let outcome = match end.outcome {
+            _ if !fenced => OUTSIDE,
+            _ if flag > 1 => NOT_A_FLAG,
+            outcome => outcome,
+        };
+        End { outcome, steps: end.steps, state: State { pc, sp, flag: flag != 0 } }
     }
 }
 
+// SAFETY, of each call: the image is `length` bytes that are lent for this call alone, or is
+// empty, where the pointer is not followed.
 impl Subject for Library {
     fn run(&self, image: &mut [u8], start: State, core: Core, limit: u32) -> End {
-        let (first, length) = (image.as_mut_ptr(), image.len());
-        // SAFETY: `first` and `length` are those of a slice that is lent for this call alone.
-        from_c(unsafe { zpu_run(first, length, to_c(start), core_number(core, start), limit) })
+        let core = core_number(core, start);
+        self.end(self.lend(image, variant(start), |image, length| unsafe {
+            zpu_run(image, length, to_c(start), core, limit)
+        }))
     }
 
     fn step(&self, image: &mut [u8], start: State, core: Core) -> End {
-        let (first, length) = (image.as_mut_ptr(), image.len());
-        // SAFETY: as in `run`.
-        from_c(unsafe { zpu_step(first, length, to_c(start), core_number(core, start)) })
+        let core = core_number(core, start);
+        self.end(self.lend(image, variant(start), |image, length| unsafe {
+            zpu_step(image, length, to_c(start), core)
+        }))
     }
 
     fn has_page(&self) -> bool {
@@ -78,7 +105,13 @@ impl Subject for Library {
     }
 
     fn page_answer(&self, image: &mut [u8]) -> u32 {
-        // SAFETY: as in `run`.
-        unsafe { zpu_page(image.as_mut_ptr(), image.len()) }
+        let variant = image.len() % VARIANTS;
+        let (answer, fenced) =
+            self.lend(image, variant, |image, length| unsafe { zpu_page(image, length) });
+        if fenced {
+            answer
+        } else {
+            OUTSIDE
+        }
     }
 }

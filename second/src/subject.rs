@@ -2,6 +2,20 @@
 
 use crate::machine::{self, Core, End, State};
 
+/// Stands for a flag that came back as neither 0 nor 1. No machine gives this outcome.
+pub const NOT_A_FLAG: u32 = u32::MAX;
+/// Stands for a call that wrote bytes around the image. No machine gives this outcome.
+pub const OUTSIDE: u32 = u32::MAX - 1;
+
+/// An outcome, or what stands in the place of one, in words.
+pub fn outcome_text(outcome: u32) -> String {
+    match outcome {
+        NOT_A_FLAG => "with a flag that is neither 0 nor 1".to_string(),
+        OUTSIDE => "with bytes around the image written".to_string(),
+        outcome => outcome.to_string(),
+    }
+}
+
 pub trait Subject {
     fn run(&self, image: &mut [u8], start: State, core: Core, limit: u32) -> End;
 
