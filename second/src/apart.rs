@@ -38,10 +38,15 @@ fn wrong_machines() -> Vec<WrongMachine> {
 }
 
 pub fn machines(report: &mut Report, seed: u64) {
-    let unbent = WrongMachine { name: "nothing bent", wrong: Wrong::Step(|_| {}) };
-    let told = told_by(&unbent, seed);
-    report.expect(told.is_empty(), || format!("the right machine is told apart by {told:?}"));
+    if report.case() {
+        let unbent = WrongMachine { name: "nothing bent", wrong: Wrong::Step(|_| {}) };
+        let told = told_by(&unbent, seed);
+        report.expect(told.is_empty(), || format!("the right machine is told apart by {told:?}"));
+    }
     for machine in wrong_machines() {
+        if !report.case() {
+            continue;
+        }
         let name = machine.name;
         let told = told_by(&machine, seed);
         report.expect(!told.is_empty(), || format!("wrong machine {name}: not told apart"));
@@ -91,18 +96,27 @@ fn change_is_told_apart(right: &dyn Subject, byte: u8, at: usize) -> bool {
     page_is_told_apart(right, byte, &|page| page[at] = if page[at] == 11 { 128 } else { 11 })
 }
 
+/// Where `with_operands` puts a short one.
+const OPERANDS_AT: State = State { pc: 3000, sp: 900, flag: false };
+
+fn with_operands(subject: &dyn Subject, byte: u8, top: u32, second: u32) -> Vec<u8> {
+    let State { pc, sp, .. } = OPERANDS_AT;
+    let mut image = vec![11; 2 * PAGE];
+    subject.lay_page(&mut image);
+    image[pc as usize] = byte;
+    set_word(&mut image, sp, top);
+    set_word(&mut image, sp + 1, second);
+    image
+}
+
 /// The page addresses that a short one passes through on the narrow core. No A leads back into
 /// the page.
 fn routine(subject: &dyn Subject, byte: u8) -> BTreeSet<usize> {
     let mut passed = BTreeSet::new();
     for top in [3000, 0x7FFF_FFFF, 0x8000_0000, 0xFFFF_FFFF] {
         for second in [0, 3, 3000, 0x8000_0000] {
-            let mut image = vec![11; 2 * PAGE];
-            subject.lay_page(&mut image);
-            image[3000] = byte;
-            set_word(&mut image, 900, top);
-            set_word(&mut image, 901, second);
-            passed.extend(path(&mut image, State { pc: 3000, sp: 900, flag: false }));
+            let mut image = with_operands(subject, byte, top, second);
+            passed.extend(path(&mut image, OPERANDS_AT));
         }
     }
     passed
@@ -121,22 +135,28 @@ fn path(image: &mut [u8], mut state: State) -> Vec<usize> {
     path
 }
 
-/// A change of each routine's first byte must be told apart. Of its other bytes it is printed
-/// how many are, since a change may also happen to do no harm.
 pub fn pages(report: &mut Report, subject: &dyn Subject) {
     for (byte, name) in SHORT_ONES {
-        let vector = 32 * (byte as usize - 32);
-        let told = change_is_told_apart(subject, byte, vector);
-        report.expect(told, || format!("wrong page {name}, byte {vector}: not told apart"));
-        let nops = page_is_told_apart(subject, byte, &|page| page.fill(11));
-        report.expect(nops, || format!("page of NOPs, {name}: not told apart"));
-        let passed = routine(subject, byte);
-        let (told, untold): (Vec<usize>, Vec<usize>) =
-            passed.iter().partition(|&&at| change_is_told_apart(subject, byte, at));
-        let (bytes, all) = (told.len(), passed.len());
-        println!("wrong page {name}: told apart for {bytes} of {all} bytes, changed one by one");
-        if !untold.is_empty() {
-            println!("wrong page {name}: no difference to be seen with a change at {untold:?}");
+        if report.case() {
+            changed_bytes(report, subject, byte, name);
         }
+    }
+}
+
+/// A change of the routine's first byte must be told apart. Of its other bytes it is printed
+/// how many are, since a change may also happen to do no harm.
+fn changed_bytes(report: &mut Report, subject: &dyn Subject, byte: u8, name: &str) {
+    let vector = 32 * (byte as usize - 32);
+    let told = change_is_told_apart(subject, byte, vector);
+    report.expect(told, || format!("wrong page {name}, byte {vector}: not told apart"));
+    let nops = page_is_told_apart(subject, byte, &|page| page.fill(11));
+    report.expect(nops, || format!("page of NOPs, {name}: not told apart"));
+    let passed = routine(subject, byte);
+    let (told, untold): (Vec<usize>, Vec<usize>) =
+        passed.iter().partition(|&&at| change_is_told_apart(subject, byte, at));
+    let (bytes, all) = (told.len(), passed.len());
+    println!("wrong page {name}: told apart for {bytes} of {all} bytes, changed one by one");
+    if !untold.is_empty() {
+        println!("wrong page {name}: no difference to be seen with a change at {untold:?}");
     }
 }

@@ -43,6 +43,13 @@ impl<'a> Bench<'a> {
         Bench { subject, report, prints_long_images: false, ours: Vec::new(), theirs: Vec::new() }
     }
 
+    /// A case of this one call.
+    pub fn case(&mut self, case: &Case, name: impl FnOnce() -> String) {
+        if self.report.case() {
+            self.compare(case, name);
+        }
+    }
+
     /// Compares and reports. Gives this program's end if the subject's is the same.
     pub fn compare(&mut self, case: &Case, name: impl FnOnce() -> String) -> Option<End> {
         let (ours, theirs) = self.both(case);

@@ -5,7 +5,6 @@ use crate::machine::{self, set_word, words, Core, State, CORES, LIMIT};
 use crate::rng::Rng;
 
 const FLAGS: [bool; 2] = [false, true];
-const NAME: &str = "edge";
 
 pub fn all(bench: &mut Bench) {
     let parts: [fn(&mut Bench); 7] =
@@ -29,6 +28,10 @@ fn each_byte(bench: &mut Bench, mut work: impl FnMut(&mut Bench, Core, u8, bool)
             }
         }
     }
+}
+
+fn one(bench: &mut Bench, case: &Case) {
+    bench.case(case, || "edge".to_string());
 }
 
 /// Three fillings: all zero, small numbers, any numbers.
@@ -59,7 +62,7 @@ fn stack_edges(bench: &mut Bench) {
                     for sp in (0..=words(&image) + 1).chain([0x4000_0000, u32::MAX]) {
                         let start = State { pc: at as u32, sp, flag };
                         let case = Case { image: &image, start, core, call: Call::Step };
-                        bench.compare(&case, || NAME.to_string());
+                        one(bench, &case);
                     }
                 }
             });
@@ -110,7 +113,7 @@ fn operands_of(bench: &mut Bench, whole: &[u8], core: Core, start: State, byte: 
             image[start.pc as usize] = byte;
             for call in [Call::Step, Call::Run(4)] {
                 let case = Case { image: &image, start, core, call };
-                bench.compare(&case, || NAME.to_string());
+                one(bench, &case);
             }
         }
     }
@@ -129,7 +132,7 @@ fn longest_image(bench: &mut Bench) {
                 }
                 let start = State { pc: 2048, sp, flag };
                 let case = Case { image: &image, start, core, call: Call::Run(2) };
-                bench.compare(&case, || NAME.to_string());
+                one(bench, &case);
             }
         }
     });
@@ -147,7 +150,7 @@ fn counter_edges(bench: &mut Bench) {
                 for limit in [0, 1, 2] {
                     let start = State { pc, sp, flag };
                     let case = Case { image: &image, start, core, call: Call::Run(limit) };
-                    bench.compare(&case, || NAME.to_string());
+                    one(bench, &case);
                 }
             }
         }
@@ -173,7 +176,12 @@ fn limit_edges(bench: &mut Bench) {
 
 const ENOUGH_TO_END: u32 = 4096;
 
+/// One case, whose first failure ends it: a subject that goes astray might never come back from
+/// the greater limits.
 fn limits_of(bench: &mut Bench, image: &[u8], core: Core, start: State) {
+    if !bench.report.case() {
+        return;
+    }
     let end = machine::run(&mut image.to_vec(), start, core, ENOUGH_TO_END);
     let exact = end.steps;
     let mut limits = vec![0, 1, exact.saturating_sub(1), exact, exact + 1];
@@ -182,8 +190,7 @@ fn limits_of(bench: &mut Bench, image: &[u8], core: Core, start: State) {
     }
     for limit in limits {
         let case = Case { image, start, core, call: Call::Run(limit) };
-        // A subject that goes astray might never come back from the greater limits.
-        if bench.compare(&case, || NAME.to_string()).is_none() {
+        if bench.compare(&case, || "limit edge".to_string()).is_none() {
             return;
         }
     }
@@ -191,15 +198,18 @@ fn limits_of(bench: &mut Bench, image: &[u8], core: Core, start: State) {
 
 fn lengths(bench: &mut Bench) {
     for length in (0..=20).chain([65_532, 65_533, 65_535, 65_536, 65_537, 65_540, 131_072]) {
-        let mut image = vec![11; length];
-        image.iter_mut().step_by(3).for_each(|byte| *byte = 0x81);
-        let w = length as u32 / 4;
-        for sp in [0, 1, w.saturating_sub(1), w, w + 1, 16_384, 16_385, u32::MAX] {
-            for pc in [0, length as u32 / 2, length as u32, u32::MAX] {
-                for flag in FLAGS {
-                    let start = State { pc, sp, flag };
-                    starts_of(bench, &image, start);
-                }
+        length_edges(bench, length);
+    }
+}
+
+fn length_edges(bench: &mut Bench, length: usize) {
+    let mut image = vec![11; length];
+    image.iter_mut().step_by(3).for_each(|byte| *byte = 0x81);
+    let w = length as u32 / 4;
+    for sp in [0, 1, w.saturating_sub(1), w, w + 1, 16_384, 16_385, u32::MAX] {
+        for pc in [0, length as u32 / 2, length as u32, u32::MAX] {
+            for flag in FLAGS {
+                starts_of(bench, &image, State { pc, sp, flag });
             }
         }
     }
@@ -209,7 +219,7 @@ fn starts_of(bench: &mut Bench, image: &[u8], start: State) {
     for core in CORES {
         for call in [Call::Step, Call::Run(0), Call::Run(1), Call::Run(9)] {
             let case = Case { image, start, core, call };
-            bench.compare(&case, || NAME.to_string());
+            one(bench, &case);
         }
     }
 }

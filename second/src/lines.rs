@@ -32,21 +32,31 @@ pub fn all(bench: &mut Bench, seed: u64) {
     }
     for number in 0..PROGRAMS {
         let input = random_input(&mut Rng::of_case(seed, FAMILY, number));
-        check(bench, &zpurun, &input, &format!("image {number} of seed {seed}"));
+        check(bench, &zpurun, &input, "a random image");
     }
 }
 
 fn check(bench: &mut Bench, zpurun: &str, input: &[u8], name: &str) {
-    let due = lines(bench, input);
-    compare(bench, zpurun, input, name, &due);
+    compare(bench, zpurun, input, name, |bench| lines(bench, input));
 }
 
-fn compare(bench: &mut Bench, zpurun: &str, input: &[u8], name: &str, due: &str) {
+fn compare(
+    bench: &mut Bench,
+    zpurun: &str,
+    input: &[u8],
+    name: &str,
+    due: impl FnOnce(&Bench) -> String,
+) {
+    if !bench.report.case() {
+        return;
+    }
+    let image = bench.image_text(input);
+    let due = due(bench);
     match printed(zpurun, input) {
-        Ok(text) => bench
-            .report
-            .expect(text == due, || format!("zpurun on {name}: {text:?} where {due:?} is due")),
-        Err(error) => bench.report.fail(|| format!("zpurun on {name}: {error}")),
+        Ok(text) => bench.report.expect(text == due, || {
+            format!("zpurun on {name}: {text:?} where {due:?} is due{image}")
+        }),
+        Err(error) => bench.report.fail(|| format!("zpurun on {name}: {error}{image}")),
     }
 }
 
@@ -64,7 +74,7 @@ fn example(bench: &mut Bench, zpurun: &str) {
     let mut input = vec![0; 4096];
     input[PAGE..PAGE + EXAMPLE.len()].copy_from_slice(&EXAMPLE);
     let due = "wide 1 2053 1023 2\nnarrow 1 2053 1023 2\n";
-    compare(bench, zpurun, &input, "the example", due);
+    compare(bench, zpurun, &input, "the example", |_| due.to_string());
 }
 
 fn refused(bench: &mut Bench, zpurun: &str) {
@@ -73,7 +83,7 @@ fn refused(bench: &mut Bench, zpurun: &str) {
         16_385, 16_386, 16_388, 20_000, 65_536, 65_540, 200_000,
     ] {
         let input = vec![11; length];
-        compare(bench, zpurun, &input, &format!("{length} bytes"), "input\n");
+        compare(bench, zpurun, &input, &format!("{length} bytes"), |_| "input\n".to_string());
     }
 }
 

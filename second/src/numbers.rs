@@ -112,6 +112,9 @@ fn image_of(code: &[u8], stack: &[u32]) -> Vec<u8> {
 }
 
 fn check(bench: &mut Bench, number: &Number) {
+    if !bench.report.case() {
+        return;
+    }
     let image = image_of(number.code, number.stack);
     let start = State { pc: PC, sp: SP, flag: false };
     let steps = number.code.len() as u32;
@@ -133,6 +136,9 @@ fn check(bench: &mut Bench, number: &Number) {
 }
 
 fn expect_end(bench: &mut Bench, name: &str, case: &Case, due: End) {
+    if !bench.report.case() {
+        return;
+    }
     let end = case.carry_out(bench.subject, &mut case.image.to_vec());
     bench.report.expect(end == due, || format!("number \"{name}\": {end:?}, due {due:?}"));
     bench.compare(case, || format!("number \"{name}\""));

@@ -6,6 +6,7 @@ use crate::dirt::{PAGE, SHORT_ONES};
 use crate::machine::{set_word, word, words, Core, State, BREAK};
 use crate::program::{Writer, SHORT};
 use crate::rng::Rng;
+use crate::subject::outcome_text;
 
 const FAMILY: u64 = 2;
 
@@ -32,7 +33,7 @@ impl Tally {
     }
 }
 
-/// What `zpu_page` answers, and what the page may hold.
+/// What `zpu_page` answers, what the page may hold, and the example.
 pub fn rules(bench: &mut Bench) {
     for length in [0, 1, 4, 2044, 2047, 2048, 2049, 2050, 2052, 4096, 65_536, 65_537, 65_540] {
         for filling in [0, 0x5A, 0xFF] {
@@ -43,11 +44,17 @@ pub fn rules(bench: &mut Bench) {
     bench.subject.lay_page(&mut image);
     for (at, &byte) in image.iter().enumerate() {
         let core_instruction = !matches!(byte, 0 | 1 | 3 | 14 | 15 | 32..=63);
-        bench.report.expect(core_instruction, || format!("page byte {at} is {byte:02X}"));
+        if bench.report.case() {
+            bench.report.expect(core_instruction, || format!("page byte {at} is {byte:02X}"));
+        }
     }
+    example(bench);
 }
 
 fn answer(bench: &mut Bench, length: usize, filling: u8) {
+    if !bench.report.case() {
+        return;
+    }
     let mut page = vec![0; PAGE];
     bench.subject.lay_page(&mut page);
     let mut image = vec![filling; length];
@@ -58,6 +65,7 @@ fn answer(bench: &mut Bench, length: usize, filling: u8) {
     let untouched = image[laid..].iter().all(|&byte| byte == filling);
     let holds = answer == due && untouched && image[..laid] == page[..laid];
     bench.report.expect(holds, || {
+        let answer = outcome_text(answer);
         format!("page over {length} bytes of {filling:02X}: answer {answer}, untouched {untouched}")
     });
 }
@@ -66,12 +74,15 @@ fn answer(bench: &mut Bench, length: usize, filling: u8) {
 pub const EXAMPLE: [u8; 5] = [0x85, 0x0B, 0x83, 0x31, 0x00];
 
 /// What zpurun prints for the example, from the subject's own page and runs.
-pub fn example(bench: &mut Bench) {
+fn example(bench: &mut Bench) {
     let mut laid = vec![0; 4096];
     laid[PAGE..PAGE + EXAMPLE.len()].copy_from_slice(&EXAMPLE);
     bench.subject.lay_page(&mut laid);
     let start = State { pc: 2048, sp: 1024, flag: false };
     for (core, limit) in [(Core::Wide, 1000), (Core::Narrow, 200_000)] {
+        if !bench.report.case() {
+            continue;
+        }
         let mut image = laid.clone();
         let end = bench.subject.run(&mut image, start, core, limit);
         let State { pc, sp, .. } = end.state;
@@ -100,8 +111,8 @@ fn follow(
     match pair.follow(steps) {
         Ok(()) => bench.report.pass(),
         Err(wrong) => {
-            let image = bench.image_text(image);
-            bench.report.fail(|| format!("{}: {start:?}: {wrong}{image}", name()));
+            let (length, image) = (image.len(), bench.image_text(image));
+            bench.report.fail(|| format!("{}: L {length}, {start:?}: {wrong}{image}", name()));
         }
     }
     tally.add(&pair);
@@ -153,8 +164,10 @@ fn operands_of(bench: &mut Bench, image: &mut [u8], start: State, name: &str, ta
                 set_word(image, start.sp + 1, second);
             }
             image[start.pc as usize] = code;
-            let name = || format!("page edge {name}, A {top:08X}, B {second:08X}");
-            follow(bench, image, start, 1, tally, &name);
+            if bench.report.case() {
+                let name = || format!("{name}, A {top:08X}, B {second:08X}");
+                follow(bench, image, start, 1, tally, &name);
+            }
             if bench.report.enough() {
                 return;
             }
@@ -171,10 +184,13 @@ pub fn programs(bench: &mut Bench, seed: u64, count: u64, tally: &mut Tally) {
     }
 }
 
-pub fn one_program(bench: &mut Bench, seed: u64, number: u64, tally: &mut Tally) {
+fn one_program(bench: &mut Bench, seed: u64, number: u64, tally: &mut Tally) {
+    if !bench.report.case() {
+        return;
+    }
     let mut rng = Rng::of_case(seed, FAMILY, number);
     let (image, start) = program(bench, &mut rng);
-    let name = || format!("page program {number} (again: --seed {seed} --only {number})");
+    let name = || "page program".to_string();
     let steps = rng.between(1, 80);
     follow(bench, &image, start, steps, tally, &name);
 }

@@ -17,11 +17,10 @@ pub fn cases(bench: &mut Bench, seed: u64, count: u64) {
     }
 }
 
-pub fn one(bench: &mut Bench, seed: u64, number: u64) {
-    case(bench, &mut Vec::new(), seed, number);
-}
-
 fn case(bench: &mut Bench, image: &mut Vec<u8>, seed: u64, number: u64) {
+    if !bench.report.case() {
+        return;
+    }
     let mut rng = Rng::of_case(seed, FAMILY, number);
     let length = length(&mut rng);
     image.resize(length, 0);
@@ -33,7 +32,7 @@ fn case(bench: &mut Bench, image: &mut Vec<u8>, seed: u64, number: u64) {
     let start = if rng.one_in(16) { odd_start(&mut rng, start, length) } else { start };
     let core: Core = rng.pick(&CORES);
     let call = call(&mut rng);
-    let name = || format!("random case {number} (again: --seed {seed} --only {number})");
+    let name = || "random case".to_string();
     let case = Case { image, start, core, call };
     let end = bench.compare(&case, name);
     // Only a run that is known to end may have the greatest limit.
