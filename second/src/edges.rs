@@ -202,7 +202,7 @@ fn lengths(bench: &mut Bench) {
     }
 }
 
-fn length_edges(bench: &mut Bench, length: usize) {
+pub fn length_edges(bench: &mut Bench, length: usize) {
     let mut image = vec![11; length];
     image.iter_mut().step_by(3).for_each(|byte| *byte = 0x81);
     let w = length as u32 / 4;

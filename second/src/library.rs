@@ -36,7 +36,10 @@ const VARIANTS: usize = 5;
 /// in front, so that images lie at different places in a machine word.
 const FENCE: [u8; PAGE + VARIANTS] = [0xA5; PAGE + VARIANTS];
 
-pub struct Library;
+pub struct Library {
+    /// Whether an empty image is lent as a null pointer.
+    pub null: bool,
+}
 
 /// Varies with the start alone, so that a case run again passes the same numbers.
 fn variant(start: State) -> usize {
@@ -67,7 +70,11 @@ impl Library {
         let (before, behind) = (&FENCE[..PAGE + variant], &FENCE[..PAGE]);
         let (first, length) = (before.len(), image.len());
         let mut lent = [before, image, behind].concat();
-        let answer = call(lent.as_mut_ptr().wrapping_add(first), length);
+        let pointer = match self.null && length == 0 {
+            true => std::ptr::null_mut(),
+            false => lent.as_mut_ptr().wrapping_add(first),
+        };
+        let answer = call(pointer, length);
         image.copy_from_slice(&lent[first..first + length]);
         (answer, lent[..first] == *before && lent[first + length..] == *behind)
     }
@@ -113,5 +120,9 @@ impl Subject for Library {
         } else {
             OUTSIDE
         }
+    }
+
+    fn with_null(&self) -> Option<&'static dyn Subject> {
+        Some(&Library { null: true })
     }
 }

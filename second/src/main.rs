@@ -92,7 +92,7 @@ fn options() -> Option<Options> {
 #[cfg(zpu_library)]
 fn the_subject() -> &'static dyn Subject {
     println!("subject: libzpu_c.a");
-    &library::Library
+    &library::Library { null: false }
 }
 
 #[cfg(not(zpu_library))]
@@ -115,10 +115,11 @@ const fn page_part(name: &'static str, work: fn(&mut Bench, &Options)) -> Part {
     Part { name, needs_page: true, work }
 }
 
-const PARTS: [Part; 10] = [
+const PARTS: [Part; 11] = [
     part("own-numbers", |bench, _| with_subject(bench, &Own, numbers::all)),
     part("numbers", |bench, _| numbers::all(bench)),
     part("edges", |bench, _| edges::all(bench)),
+    part("null", |bench, _| null_image(bench)),
     part("random", |bench, options| {
         random::cases(bench, options.seed, options.count(options.cases))
     }),
@@ -134,6 +135,18 @@ fn with_subject(bench: &mut Bench, subject: &'static dyn Subject, work: fn(&mut 
     let usual = std::mem::replace(&mut bench.subject, subject);
     work(bench);
     bench.subject = usual;
+}
+
+/// The empty image as a null pointer.
+fn null_image(bench: &mut Bench) {
+    let Some(subject) = bench.subject.with_null() else {
+        bench.report.note("null: skipped, the subject is lent no pointers");
+        return;
+    };
+    with_subject(bench, subject, |bench| {
+        edges::length_edges(bench, 0);
+        page::answer(bench, 0, 0);
+    });
 }
 
 fn page_edges(bench: &mut Bench) {

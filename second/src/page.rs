@@ -51,7 +51,7 @@ pub fn rules(bench: &mut Bench) {
     example(bench);
 }
 
-fn answer(bench: &mut Bench, length: usize, filling: u8) {
+pub fn answer(bench: &mut Bench, length: usize, filling: u8) {
     if !bench.report.case() {
         return;
     }

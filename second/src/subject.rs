@@ -30,6 +30,11 @@ pub trait Subject {
     fn lay_page(&self, image: &mut [u8]) -> bool {
         self.page_answer(image) == 0
     }
+
+    /// The same subject, lent an empty image as a null pointer, where it is lent pointers.
+    fn with_null(&self) -> Option<&'static dyn Subject> {
+        None
+    }
 }
 
 /// This program's own machine, which has no page.
