@@ -1,14 +1,22 @@
 //! Each of the 256 bytes, on each core, at the edges.
 
 use crate::bench::{Bench, Call, Case};
-use crate::machine::{self, set_word, words, Core, State, CORES, LIMIT};
+use crate::machine::{self, is_image, set_word, words, Core, State, CORES, LIMIT};
 use crate::rng::Rng;
 
 const FLAGS: [bool; 2] = [false, true];
 
 pub fn all(bench: &mut Bench) {
-    let parts: [fn(&mut Bench); 7] =
-        [stack_edges, operand_edges, longest_image, counter_edges, limit_edges, lengths, starts];
+    let parts: [fn(&mut Bench); 8] = [
+        stack_edges,
+        operand_edges,
+        longest_image,
+        counter_edges,
+        limit_edges,
+        lengths,
+        bad_lengths,
+        starts,
+    ];
     for part in parts {
         part(bench);
         if bench.report.enough() {
@@ -212,6 +220,26 @@ pub fn length_edges(bench: &mut Bench, length: usize) {
                 starts_of(bench, &image, State { pc, sp, flag });
             }
         }
+    }
+}
+
+/// Images of each byte, of lengths that IMAGE refuses.
+fn bad_lengths(bench: &mut Bench) {
+    for length in (1..20).chain([65_533, 65_534, 65_535, 65_537, 65_540, 131_072]) {
+        if is_image(length) {
+            continue;
+        }
+        let mut image = vec![0; length];
+        let (pc, w) = (length as u32 / 2, length as u32 / 4);
+        each_byte(bench, |bench, core, byte, flag| {
+            image.fill(byte);
+            for sp in [w / 2, w] {
+                for call in [Call::Step, Call::Run(9)] {
+                    let start = State { pc, sp, flag };
+                    one(bench, &Case { image: &image, start, core, call });
+                }
+            }
+        });
     }
 }
 

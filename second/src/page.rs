@@ -36,7 +36,7 @@ impl Tally {
 /// What `zpu_page` answers, what the page may hold, and the example.
 pub fn rules(bench: &mut Bench) {
     for length in [0, 1, 4, 2044, 2047, 2048, 2049, 2050, 2052, 4096, 65_536, 65_537, 65_540] {
-        for filling in [0, 0x5A, 0xFF] {
+        for filling in 0..=255 {
             answer(bench, length, filling);
         }
     }
