@@ -1,7 +1,7 @@
 //! The lines that zpurun prints.
 
 use std::io::Write;
-use std::process::{Command, Stdio};
+use std::process::{Command, ExitStatus, Stdio};
 
 use crate::bench::Bench;
 use crate::dirt::PAGE;
@@ -40,6 +40,7 @@ fn check(bench: &mut Bench, zpurun: &str, input: &[u8], name: &str) {
     compare(bench, zpurun, input, name, |bench| lines(bench, input));
 }
 
+/// zpurun ends with 0 whatever it prints.
 fn compare(
     bench: &mut Bench,
     zpurun: &str,
@@ -53,21 +54,21 @@ fn compare(
     let image = bench.image_text(input);
     let due = due(bench);
     match printed(zpurun, input) {
-        Ok(text) => bench.report.expect(text == due, || {
-            format!("zpurun on {name}: {text:?} where {due:?} is due{image}")
+        Ok((text, status)) => bench.report.expect(text == due && status.success(), || {
+            format!("zpurun on {name}: {text:?}, {status}, where {due:?} and 0 are due{image}")
         }),
         Err(error) => bench.report.fail(|| format!("zpurun on {name}: {error}{image}")),
     }
 }
 
-fn printed(zpurun: &str, input: &[u8]) -> std::io::Result<String> {
+fn printed(zpurun: &str, input: &[u8]) -> std::io::Result<(String, ExitStatus)> {
     let mut child = Command::new(zpurun).stdin(Stdio::piped()).stdout(Stdio::piped()).spawn()?;
     if let Some(mut stdin) = child.stdin.take() {
         // A program that refuses the size may close its input early.
         let _ = stdin.write_all(input);
     }
     let output = child.wait_with_output()?;
-    Ok(String::from_utf8_lossy(&output.stdout).into_owned())
+    Ok((String::from_utf8_lossy(&output.stdout).into_owned(), output.status))
 }
 
 fn example(bench: &mut Bench, zpurun: &str) {
