@@ -3,12 +3,14 @@
 use std::collections::BTreeSet;
 
 use crate::bench::Bench;
+use crate::demand3::Pair;
 use crate::dirt::{PAGE, SHORT_ONES};
 use crate::machine::{self, set_word, Core, End, State, LIMIT};
-use crate::page::{self, Tally};
+use crate::page::{self, Tally, OPERANDS};
 use crate::report::Report;
 use crate::subject::Subject;
 use crate::wrong::{Wrong, WrongMachine};
+use crate::wrong_pages::{Routine, ROUTINES};
 use crate::{edges, numbers, random, wrong_core, wrong_runs, wrong_wide};
 
 const RANDOM_CASES: u64 = 20_000;
@@ -141,6 +143,11 @@ pub fn pages(report: &mut Report, subject: &dyn Subject) {
             changed_bytes(report, subject, byte, name);
         }
     }
+    for routine in &ROUTINES {
+        if report.case() {
+            own_routine(report, subject, routine);
+        }
+    }
 }
 
 /// A change of the routine's first byte must be told apart. Of its other bytes it is printed
@@ -159,4 +166,30 @@ fn changed_bytes(report: &mut Report, subject: &dyn Subject, byte: u8, name: &st
     if !untold.is_empty() {
         println!("wrong page {name}: no difference to be seen with a change at {untold:?}");
     }
+}
+
+/// The routine must be told apart if it is wrong for any operands, and must fail for just those.
+fn own_routine(report: &mut Report, subject: &dyn Subject, routine: &Routine) {
+    let Routine { name, byte, is_wrong, .. } = *routine;
+    let spoil = |page: &mut [u8]| routine.lay(page);
+    let pairs = || OPERANDS.iter().flat_map(|&a| OPERANDS.map(|b| (a, b)));
+    let wrong = pairs().filter(|&(a, b)| is_wrong(a, b)).count();
+    let told = page_is_told_apart(subject, byte, &spoil);
+    report.expect(told == (wrong > 0), || {
+        format!("page with {name}: wrong for {wrong} operands, told apart {told}")
+    });
+    let wrong_page = WrongPage { right: subject, spoil: &spoil };
+    let surprise = pairs().find(|&(a, b)| fails_for(&wrong_page, byte, a, b) != is_wrong(a, b));
+    report.expect(surprise.is_none(), || {
+        format!("page with {name}: fails where it is right, or not where wrong: {surprise:08X?}")
+    });
+    if told && surprise.is_none() {
+        println!("wrong page {name}: told apart for {wrong} of {} operands", pairs().count());
+    }
+}
+
+/// Whether the narrow core over this page falls behind the wide core in this instruction.
+fn fails_for(subject: &dyn Subject, byte: u8, top: u32, second: u32) -> bool {
+    let image = with_operands(subject, byte, top, second);
+    Pair::new(&image, OPERANDS_AT).follow(1).is_err()
 }

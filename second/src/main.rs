@@ -32,6 +32,7 @@ mod subject;
 mod wide;
 mod wrong;
 mod wrong_core;
+mod wrong_pages;
 mod wrong_runs;
 mod wrong_wide;
 

@@ -127,7 +127,7 @@ pub fn edges(bench: &mut Bench, tally: &mut Tally) {
     }
 }
 
-const OPERANDS: [u32; 18] = [
+pub const OPERANDS: [u32; 18] = [
     0, 1, 2, 3, 544, 2048, 2100, 4095, 4096, 0xFFFF, 0x1234_5678, 0x7FFF_FFFE, 0x7FFF_FFFF,
     0x8000_0000, 0x8000_0001, 0xFFFF_FFFC, 0xFFFF_FFFE, 0xFFFF_FFFF,
 ];
