@@ -12,7 +12,7 @@
 
 typedef zpu_end run_call(uint8_t *image, size_t length, zpu_state start, uint32_t core, uint32_t limit);
 
-enum { OURS, MOST_BUILDS = 4, PLACES = 4, MOST_REPETITIONS = 101, FOREVER = 0x7fffffff };
+enum { OURS, MOST_BUILDS = 4, PLACES = 4, MOST_REPETITIONS = 101, TRIES = 5, FOREVER = 0x7fffffff };
 
 static struct {
     const char *name;
@@ -240,14 +240,25 @@ static double rate(uint32_t core, uint32_t each)
     return 1e-6 * calls * each / (now() - from);
 }
 
+static double fastest_rate(uint32_t core, uint32_t each)
+{
+    double fastest = 0;
+    int k;
+
+    for (k = 0; k < TRIES; k++)
+        fastest = fmax(fastest, rate(core, each));
+    return fastest;
+}
+
 static void scale(void)
 {
     uint32_t each = 1000;
     int power;
 
-    printf("\n| limit | ours, wide, million steps a second | narrow |\n|---|---|---|\n");
+    printf("\n| limit | ours, wide, million steps a second, the fastest of %d tries | narrow |\n|---|---|---|\n", TRIES);
     for (power = 3; power <= 9; power++, each *= 10) {
-        printf("| 10^%d | %.0f | %.0f |\n", power, rate(ZPU_WIDE, each), rate(ZPU_NARROW, each));
+        printf("| 10^%d | %.0f |", power, fastest_rate(ZPU_WIDE, each));
+        printf(" %.0f |\n", fastest_rate(ZPU_NARROW, each));
         fflush(stdout);
     }
 }
