@@ -14,10 +14,10 @@ use Rattle.machine.specs.declared.State.{State}
 use Rattle.machine.specs.Instructions.{Instr, decode}
 use Rattle.machine.specs.Effects.{Effect, Effect.refuse, Effect.stop, Effect.go, Effect.write, memoryAfter}
 use Rattle.machine.specs.Table.{row, stepOf}
-use Rattle.machine.specs.Run.{Place, place}
+use Rattle.machine.specs.Run.{Place, place, landed}
 use Rattle.routines.specs.Constants.{pageLength}
 use Rattle.routines.proofs.Tests.{holds, neither}
-use Rattle.demand3.specs.Dirt.{Dirt, wideStep, fetched, between, writes, landed, dirtied}
+use Rattle.demand3.specs.Dirt.{Dirt, wideStep, fetched, between, writes, dirtied}
 use Rattle.demand3.specs.Demand3.{Allowed, CleanWords, core, instruction}
 use Rattle.demand3.proofs.Memory.{Outside, outside-same, written-bytes, written-alike}
 use Rattle.demand3.proofs.Steps.{Goes, goes-on, one-step}

@@ -18,15 +18,16 @@ use Rattle.machine.specs.declared.State.{State}
 use Rattle.machine.specs.declared.Outcome.{Outcome}
 use Rattle.machine.specs.declared.Outcome.the-variants.{Fetch, Stack}
 use Rattle.machine.specs.State.{jump}
-use Rattle.machine.specs.Effects.{Effect, Effect.go, Effect.write, guard, memoryAfter}
+use Rattle.machine.specs.Effects.{Effect, Effect.go, Effect.write, guard, memoryAfter, stateAfter}
 use Rattle.machine.specs.Table.{reading, effectOf, stepOf, put, A, B}
-use Rattle.machine.specs.Run.{Place, place}
+use Rattle.machine.specs.Instructions.{among}
+use Rattle.machine.specs.Run.{Place, place, landed}
 use Rattle.routines.specs.Constants.{freeWords}
 use Rattle.routines.specs.Page.{Short, shorts}
 use Rattle.routines.proofs.Tests.{both, neither}
 use Rattle.routines.proofs.Entries.{In, at-entry, same-at}
 use Rattle.routines.proofs.Shorts.{wordsFrom, said, meanings, shaped, shapes}
-use Rattle.demand3.specs.Dirt.{Dirt, wideStep, fetched, among, short, between, writes, leaves, stateAfter, landed, dirtied}
+use Rattle.demand3.specs.Dirt.{Dirt, wideStep, fetched, short, between, writes, leaves, dirtied}
 use Rattle.demand3.specs.Demand3.{Allowed, CleanWords}
 use Rattle.demand3.proofs.Memory.{Outside, outside-same, read-written, read-lt, alike-read, written-bytes}
 use Rattle.demand3.proofs.Between.{not-between, is-between}

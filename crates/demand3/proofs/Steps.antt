@@ -7,8 +7,7 @@ use native.Mathlib.Omega.{arith}
 use Rattle.machine.specs.declared.Core.{Core}
 use Rattle.machine.specs.Effects.{Effect, Effect.refuse, Effect.stop, Effect.go, Effect.write}
 use Rattle.machine.specs.Table.{stepOf}
-use Rattle.machine.specs.Run.{Place, onward, steps}
-use Rattle.demand3.specs.Dirt.{landed}
+use Rattle.machine.specs.Run.{Place, onward, steps, landed}
 
 -- the effect is neither a refusal nor a stop
 abbrev pub Goes : Effect → Type 0

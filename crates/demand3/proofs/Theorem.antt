@@ -11,10 +11,10 @@ use lib.Seq.{getD-take}
 use lib.Dec.{T, ltb, leb, eqb}
 use Rattle.machine.specs.declared.Core.the-variants.{Narrow, Wide}
 use Rattle.machine.specs.declared.State.{State}
-use Rattle.machine.specs.Run.{Place, place, steps, goodLength}
+use Rattle.machine.specs.Run.{Place, place, steps, goodLength, landed}
 use Rattle.routines.specs.Constants.{pageLength, stepBound}
 use Rattle.routines.proofs.Tests.{both}
-use Rattle.demand3.specs.Dirt.{Dirt, clean, wideStep, fetched, short, landed, dirtied}
+use Rattle.demand3.specs.Dirt.{Dirt, clean, wideStep, fetched, short, dirtied}
 use Rattle.demand3.specs.Demand3.{Start, Allowed, AllAllowed, dirtAfter, Demand3, core}
 use Rattle.demand3.proofs.Steps.{Goes, first-step, no-step, steps-add}
 use Rattle.demand3.proofs.Alike.{Alike, Follows}

@@ -13,10 +13,10 @@ use Rattle.machine.specs.declared.Core.the-variants.{Narrow, Wide}
 use Rattle.machine.specs.declared.Width.{Width}
 use Rattle.machine.specs.Instructions.{Instr, Instr.load, decode}
 use Rattle.machine.specs.Table.{row, A, aligned, size}
-use Rattle.machine.specs.Run.{Place, steps, goodLength}
+use Rattle.machine.specs.Run.{Place, steps, goodLength, landed}
 use Rattle.routines.specs.Constants.{pageLength, firstStackWord, freeWords, stepBound}
 use Rattle.routines.specs.Page.{page}
-use Rattle.demand3.specs.Dirt.{Dirt, clean, fetched, wideStep, short, writes, landed, dirtied}
+use Rattle.demand3.specs.Dirt.{Dirt, clean, fetched, wideStep, short, writes, dirtied}
 
 -- a start with our microcode page in place
 pub record Start (p : Place) : Type 0 where

@@ -1,14 +1,14 @@
 -- Dirt, by byte, along the wide run.
 use Prim.Native.Nat.{ℕ, _+_, _-_, _*_}
 use mathlib.Core.Bool.{Bool, false, not, _&&_, _||_}
-use mathlib.Core.List.{List, [], _∷_}
+use mathlib.Core.List.{[], _∷_}
 use lib.ListN.{getD}
-use lib.Dec.{ltb, leb, eqb}
+use lib.Dec.{ltb, leb}
 use Rattle.machine.specs.declared.Core.the-variants.{Wide}
-use Rattle.machine.specs.declared.State.{State}
-use Rattle.machine.specs.Effects.{Effect, Effect.refuse, Effect.stop, Effect.go, Effect.write, memoryAfter}
+use Rattle.machine.specs.Effects.{Effect, Effect.refuse, Effect.stop, Effect.go, Effect.write, stateAfter}
+use Rattle.machine.specs.Instructions.{among}
 use Rattle.machine.specs.Table.{stepOf}
-use Rattle.machine.specs.Run.{Place, place}
+use Rattle.machine.specs.Run.{Place}
 use Rattle.routines.specs.Constants.{freeWords}
 
 abbrev pub Dirt : Type 0
@@ -26,10 +26,6 @@ fetched p = getD (p .memory) (p .state .pc .0) 0
 abbrev pub wideStep : Place → Effect
 wideStep p = stepOf Wide (p .memory) (p .state)
 
-abbrev pub among : ℕ → List ℕ → Bool
-among b [] = false
-among b (x ∷ xs) = eqb b x || among b xs
-
 -- the twelve short ones
 unfoldable pub short : ℕ → Bool
 short b = among b (36 ∷ 37 ∷ 38 ∷ 39 ∷ 45 ∷ 46 ∷ 47 ∷ 48 ∷ 49 ∷ 50 ∷ 56 ∷ 61 ∷ [])
@@ -44,16 +40,6 @@ writes (refuse o) x = false
 writes (stop t) x = false
 writes (go t) x = false
 writes (write t a k v) x = between a (a + k) x
-
--- the state after an effect on s
-abbrev pub stateAfter : State → Effect → State
-stateAfter s (refuse o) = s
-stateAfter s (stop t) = t
-stateAfter s (go t) = t
-stateAfter s (write t a k v) = t
-
-abbrev pub landed : Effect → Place → Place
-landed e p = place (memoryAfter (p .memory) e) (stateAfter (p .state) e)
 
 -- what a short one leaves behind: the free words directly below its sp, and the words between the old sp and the new
 unfoldable pub leaves : ℕ → ℕ → ℕ → Bool

@@ -18,12 +18,12 @@ use Rattle.machine.specs.declared.Width.{Width}
 use Rattle.machine.specs.Instructions.{Instr, Instr.IM, Instr.STORESP, Instr.LOADSP, Instr.EMULATE, Instr.ADDSP, Instr.PUSHSP, Instr.POPSP, Instr.POPPC, Instr.NOP, Instr.BREAK, Instr.ILLEGAL, Instr.PUSHSPADD, Instr.CALL, Instr.CALLPCREL, Instr.POPPCREL, Instr.PUSHPC, Instr.NEQBRANCH, Instr.EQBRANCH, Instr.unary, Instr.binary, Instr.division, Instr.load, Instr.store, decode, first, middle}
 use Rattle.machine.specs.Effects.{Effect, Effect.refuse, Effect.stop, Effect.go, Effect.write}
 use Rattle.machine.specs.Table.{row, effectOf, stepOf, A, aligned, size}
-use Rattle.machine.specs.Run.{Place, steps, goodLength}
+use Rattle.machine.specs.Run.{Place, steps, goodLength, landed}
 use Rattle.routines.specs.Constants.{pageLength, firstStackWord, freeWords}
 use Rattle.routines.specs.Page.{page}
 use Rattle.routines.proofs.Entries.{In, same-at}
 use Rattle.routines.proofs.Rule.{page-length}
-use Rattle.demand3.specs.Dirt.{Dirt, clean, fetched, wideStep, short, writes, leaves, landed, dirtied}
+use Rattle.demand3.specs.Dirt.{Dirt, clean, fetched, wideStep, short, writes, leaves, dirtied}
 use Rattle.demand3.specs.Demand3.{Start, Allowed, AllAllowed, dirtAfter, Run, Reached, Clean, CleanWords, core, instruction}
 use Rattle.routines.proofs.Tests.{both, holds, true-is}
 use Rattle.demand3.proofs.Between.{is-between}

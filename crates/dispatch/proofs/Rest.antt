@@ -5,25 +5,25 @@ use mathlib.Core.Bool.{Bool, false, cond, _||_}
 use mathlib.Core.List.{List, [], _∷_}
 use native.Mathlib.Omega.{arith}
 use native.Mathlib.Decide.{decLt}
-use lib.ListN.{getD, replicate}
+use lib.ListN.{getD, getD-replicate}
 use lib.Dec.{eqb}
 use borrow.Author.Tests.{lt-ltb, le-ltb, eq-eqb, ne-eqb}
 use Rattle.machine.specs.declared.Core.the-variants.{Wide}
-use Rattle.machine.specs.Instructions.{Instr, Instr.ADDSP, Instr.ILLEGAL, low, wide, first, middle, decode}
-use Rattle.dispatch.specs.Families.{oneOf, families}
+use Rattle.machine.specs.Instructions.{Instr, Instr.ADDSP, Instr.ILLEGAL, low, wide, first, middle, decode, among}
+use Rattle.dispatch.specs.Families.{families}
 
 -- what the last arm of a match on the keys knows, T before it
 abbrev pub NoneOf : Type 0 → List ℕ → ℕ → Type 0
 NoneOf T [] n = T
 NoneOf T (k ∷ ks) n = NoneOf (T × (n ≡ k → ⊥)) ks n
 
-tested : (T : Type 0) (ks : List ℕ) (n : ℕ) → NoneOf T ks n → T × (oneOf ks n ≡ false)
+tested : (T : Type 0) (ks : List ℕ) (n : ℕ) → NoneOf T ks n → T × (among n ks ≡ false)
 tested T [] n r = (r, refl)
 tested T (k ∷ ks) n r =
-    let (p, e) : (T × (n ≡ k → ⊥)) × (oneOf ks n ≡ false) = tested (T × (n ≡ k → ⊥)) ks n r
+    let (p, e) : (T × (n ≡ k → ⊥)) × (among n ks ≡ false) = tested (T × (n ≡ k → ⊥)) ks n r
     in (p .0, rw (ne-eqb n k (p .1)) e)
 
-pub none : (ks : List ℕ) (n : ℕ) → NoneOf (Unit {0}) ks n → oneOf ks n ≡ false
+pub none : (ks : List ℕ) (n : ℕ) → NoneOf (Unit {0}) ks n → among n ks ≡ false
 none ks n r = tested (Unit {0}) ks n r .1
 
 -- a list whose first place is j, without the instructions at the places that are among the keys
@@ -36,26 +36,21 @@ left gone [] j i n p e = refl
 left gone (x ∷ l) j zero n p e = let q : j ≡ n = omega arith in rw (q, e) refl
 left gone (x ∷ l) j (suc i) n p e = left gone l (suc j) i n (omega arith) e
 
-illegal : (k i : ℕ) → getD (replicate k ILLEGAL) i ILLEGAL ≡ ILLEGAL
-illegal zero i = refl
-illegal (suc k) zero = refl
-illegal (suc k) (suc i) = illegal k i
-
 -- the bytes of the other instructions, but for ADDSP
 abbrev pub others : List ℕ
 others = 0 ∷ 2 ∷ 4 ∷ 11 ∷ 13 ∷ 45 ∷ 55 ∷ 56 ∷ 57 ∷ 59 ∷ 61 ∷ 63 ∷ []
 
 abbrev listed : ℕ → Bool
-listed n = oneOf families n || oneOf others n
+listed n = among n families || among n others
 
-pub rest : (b : ℕ) → b < 64 → oneOf families b ≡ false → oneOf others b ≡ false → decode Wide b ≡ cond (eqb (b / 16) 1) (ADDSP (b % 16)) ILLEGAL
+pub rest : (b : ℕ) → b < 64 → among b families ≡ false → among b others ≡ false → decode Wide b ≡ cond (eqb (b / 16) 1) (ADDSP (b % 16)) ILLEGAL
 unfolding decode first middle
 rest b h w m =
     let e : listed b ≡ false = rw (w, m) refl in
     elim (decLt b 16) [
-      | yes l ↦ rw (lt-ltb b 32 (omega arith), lt-ltb b 16 l, ne-eqb (b / 16) 1 (λ q. omega arith)) (left listed low 0 b b (omega arith) e ∙ illegal 16 b)
+      | yes l ↦ rw (lt-ltb b 32 (omega arith), lt-ltb b 16 l, ne-eqb (b / 16) 1 (λ q. omega arith)) (left listed low 0 b b (omega arith) e ∙ getD-replicate 16 b ILLEGAL ILLEGAL l)
       | no l ↦ elim (decLt b 32) [
         | yes k ↦ rw (lt-ltb b 32 k, le-ltb b 16 (omega arith), eq-eqb (b / 16) 1 (omega arith)) refl
-        | no k ↦ rw (le-ltb b 32 (omega arith), lt-ltb b 64 h, ne-eqb (b / 16) 1 (λ q. omega arith)) (left listed wide 32 (b - 32) b (omega arith) e ∙ illegal 32 (b - 32))
+        | no k ↦ rw (le-ltb b 32 (omega arith), lt-ltb b 64 h, ne-eqb (b / 16) 1 (λ q. omega arith)) (left listed wide 32 (b - 32) b (omega arith) e ∙ getD-replicate 32 (b - 32) ILLEGAL ILLEGAL (omega arith))
       ]
     ]

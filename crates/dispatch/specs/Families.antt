@@ -1,12 +1,6 @@
 -- The bytes below 64 that word_instructions serves: members of a family, which differ in an operation or a width.
 use Prim.Native.Nat.{ℕ}
-use mathlib.Core.Bool.{Bool, false, _||_}
 use mathlib.Core.List.{List, [], _∷_}
-use lib.Dec.{eqb}
-
-abbrev pub oneOf : List ℕ → ℕ → Bool
-oneOf [] n = false
-oneOf (k ∷ ks) n = eqb n k || oneOf ks n
 
 abbrev pub families : List ℕ
 families =

@@ -12,9 +12,9 @@ ghost use Prim.Native.Nat.{ℕ, _/_, _%_, _<_};
 ghost use lib.Dec.{eqb};
 ghost use Rattle.machine.specs.declared.Core.the-variants.{Wide};
 ghost use Rattle.machine.specs.Table.{effectOf};
-ghost use Rattle.machine.specs.Instructions.{Instr.ADDSP, Instr.ILLEGAL, decode};
+ghost use Rattle.machine.specs.Instructions.{Instr.ADDSP, Instr.ILLEGAL, decode, among};
 ghost use Rattle.machine.specs.Inner.{Ready, Carried};
-ghost use Rattle.dispatch.specs.Families.{oneOf, families};
+ghost use Rattle.dispatch.specs.Families.{families};
 
 // ADDSP is bytes 16 to 31.
 fn addsp_or_illegal(image: &mut [u8], s: State, byte: u8) -> Answer
@@ -30,7 +30,7 @@ fn addsp_or_illegal(image: &mut [u8], s: State, byte: u8) -> Answer
 // The other instructions: the byte is none of `families`.
 fn others(image: &mut [u8], s: State, byte: u8) -> Answer
     requires { ⌜ Ready (now image) s ⌝ }
-    requires { ⌜ (byte < 64) × (oneOf families byte ≡ false) ⌝ }
+    requires { ⌜ (byte < 64) × (among byte families ≡ false) ⌝ }
     ensures { λ r. ⌜ Carried (now (image .entry)) s (effectOf (now (image .entry)) s (decode Wide byte)) r (now (image .exit)) ⌝ }
 {
     match byte {

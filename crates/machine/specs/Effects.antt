@@ -21,3 +21,10 @@ memoryAfter m (refuse o) = m
 memoryAfter m (stop t) = m
 memoryAfter m (go t) = m
 memoryAfter m (write t a k v) = setBytes m a k v
+
+-- the state after it, from s
+abbrev pub stateAfter : State → Effect → State
+stateAfter s (refuse o) = s
+stateAfter s (stop t) = t
+stateAfter s (go t) = t
+stateAfter s (write t a k v) = t

@@ -1,9 +1,9 @@
 -- The instructions, and the byte of each.
 use Prim.Native.Nat.{ℕ, _+_, _-_, _%_}
-use mathlib.Core.Bool.{cond}
+use mathlib.Core.Bool.{Bool, false, cond, _||_}
 use mathlib.Core.List.{List, [], _∷_}
 use lib.ListN.{getD}
-use lib.Dec.{ltb}
+use lib.Dec.{ltb, eqb}
 use Rattle.arithmetic.specs.declared.UnOp.{UnOp}
 use Rattle.arithmetic.specs.declared.UnOp.the-variants.{Not, Flip, Neg}
 use Rattle.arithmetic.specs.declared.BinOp.{BinOp}
@@ -102,3 +102,8 @@ decode core b =
     cond (ltb b 32) (first b)
     (cond (ltb b 64) (middle core b)
     (cond (ltb b 96) (STORESP (inverted b)) (cond (ltb b 128) (LOADSP (inverted b)) (IM (b - 128)))))
+
+-- a byte is one of those listed
+abbrev pub among : ℕ → List ℕ → Bool
+among b [] = false
+among b (x ∷ xs) = eqb b x || among b xs

@@ -5,14 +5,13 @@ use mathlib.Core.List.{List}
 use mathlib.Core.Option.{Option, none, some}
 use lib.ListN.{length}
 use lib.Dec.{ltb, leb, eqb}
-use Rattle.memory.specs.Memory.{setBytes}
 use Rattle.machine.specs.declared.Core.{Core}
 use Rattle.machine.specs.declared.State.{State}
 use Rattle.machine.specs.declared.Outcome.{Outcome}
 use Rattle.machine.specs.declared.Outcome.the-variants.{Limit, Break, Image, Start}
 use Rattle.machine.specs.declared.Finish.{Finish}
 use Rattle.machine.specs.Outcomes.{number}
-use Rattle.machine.specs.Effects.{Effect, Effect.refuse, Effect.stop, Effect.go, Effect.write}
+use Rattle.machine.specs.Effects.{Effect, Effect.refuse, Effect.stop, Effect.go, Effect.write, memoryAfter, stateAfter}
 use Rattle.machine.specs.Table.{stepOf}
 
 -- where a machine stands
@@ -23,12 +22,16 @@ pub record Place : Type 0 where
 abbrev pub place : List ℕ → State → Place
 place m s = record { memory = m; state = s }
 
+-- where an effect carried out at p leads
+abbrev pub landed : Effect → Place → Place
+landed e p = place (memoryAfter (p .memory) e) (stateAfter (p .state) e)
+
 -- an effect carried out at p, and what is done from there: nothing where it stops or is refused
 abbrev pub onward : Effect → Place → (Place → Option Place) → Option Place
 onward (refuse o) p more = none
 onward (stop t) p more = none
-onward (go t) p more = more (place (p .memory) t)
-onward (write t a k v) p more = more (place (setBytes (p .memory) a k v) t)
+onward (go t) p more = more (landed (go t) p)
+onward (write t a k v) p more = more (landed (write t a k v) p)
 
 -- n steps, none of which stops or is refused
 unfoldable pub steps : Core → ℕ → Place → Option Place
@@ -47,9 +50,9 @@ ended o n p = record { outcome = number o; steps = n; place = p }
 -- the run goes on from p by an effect, n steps done
 abbrev pub after : Effect → ℕ → Place → (ℕ → Place → Ran) → Ran
 after (refuse o) n p more = ended o n p
-after (stop t) n p more = ended Break (n + 1) (place (p .memory) t)
-after (go t) n p more = more (n + 1) (place (p .memory) t)
-after (write t a k v) n p more = more (n + 1) (place (setBytes (p .memory) a k v) t)
+after (stop t) n p more = ended Break (n + 1) (landed (stop t) p)
+after (go t) n p more = more (n + 1) (landed (go t) p)
+after (write t a k v) n p more = more (n + 1) (landed (write t a k v) p)
 
 -- at most k steps more, n done
 unfoldable pub runFrom : Core → ℕ → ℕ → Place → Ran

@@ -15,7 +15,11 @@ abbrev pub number : Laid → ℕ
 number Done = 0
 number TooShort = 2
 
+-- the page over the first bytes of m
+abbrev pub laid : List ℕ → List ℕ
+laid m = page ++ drop pageLength m
+
 -- from the image m the answer's number is n, and m′ is the image then
 abbrev pub Lays : List ℕ → ℕ → List ℕ → Type 0
 Lays m n m′ =
-    (n ≡ cond (ltb (length m) pageLength) 2 0) × (m′ ≡ cond (ltb (length m) pageLength) m (page ++ drop pageLength m))
+    (n ≡ cond (ltb (length m) pageLength) 2 0) × (m′ ≡ cond (ltb (length m) pageLength) m (laid m))

@@ -16,7 +16,8 @@ use Rattle.routines.specs.Constants.{pageLength}
 use Rattle.routines.specs.Page.{page}
 use Rattle.routines.proofs.Rule.{page-length}
 use Rattle.routines.proofs.Tests.{both}
-use Rattle.report.specs.Printed.{shortest, longest, runs, laid, start, session}
+use Rattle.microcode.specs.Laying.{laid}
+use Rattle.report.specs.Printed.{shortest, longest, runs, start, session}
 use Rattle.report.specs.Text.{Inside}
 
 pub sizes : (l : ℕ) → runs l ≡ true → (shortest ≤ l) × (l ≤ longest) × (l % 4 ≡ 0)

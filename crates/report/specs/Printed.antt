@@ -10,7 +10,7 @@ use Rattle.machine.specs.declared.Core.the-variants.{Narrow, Wide}
 use Rattle.machine.specs.declared.State.{State}
 use Rattle.machine.specs.Run.{place, Ran, run}
 use Rattle.routines.specs.Constants.{pageLength, stepBound}
-use Rattle.routines.specs.Page.{page}
+use Rattle.microcode.specs.Laying.{laid}
 use Rattle.report.specs.Lines.{line, lineFeed}
 
 -- the bytes of an image that is run, at least and at most
@@ -30,10 +30,6 @@ narrowLimit = stepBound * wideLimit
 -- the sizes that are run
 unfoldable pub runs : ℕ → Bool
 runs l = leb shortest l && leb l longest && eqb (l % 4) 0
-
--- the page over bytes 0 to 2047
-abbrev pub laid : List ℕ → List ℕ
-laid m = page ++ drop pageLength m
 
 -- just above the page, sp = W, the flag clear
 abbrev pub start : ℕ → State

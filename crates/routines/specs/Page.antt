@@ -25,12 +25,12 @@ pub record Short : Type 0 where
   pub lines : List Line
   pub bound : ℕ
 
-abbrev pub onward : ℕ → ℕ → ℕ → ℕ
-onward c a b = wrap (c + 1)
+abbrev pub following : ℕ → ℕ → ℕ → ℕ
+following c a b = wrap (c + 1)
 
 -- pops two, pushes one
 abbrev twoToOne : ℕ → BinOp → List Line → ℕ → Short
-twoToOne b op l n = record { byte = b; operands = 2; popped = 1; target = onward; value = λ c s x y. binaryOf op x y; lines = l; bound = n }
+twoToOne b op l n = record { byte = b; operands = 2; popped = 1; target = following; value = λ c s x y. binaryOf op x y; lines = l; bound = n }
 
 -- pops two
 abbrev twoToNone : ℕ → (ℕ → ℕ → ℕ → ℕ) → List Line → ℕ → Short
@@ -49,11 +49,11 @@ shorts =
     ∷ oneToOne 45 (λ c x y. x) (λ c s x y. wrap (c + 1)) call 6
     ∷ twoToOne 46 Eq eq 18
     ∷ twoToOne 47 Neq neq 17
-    ∷ oneToOne 48 onward (λ c s x y. unaryOf Neg x) neg 7
+    ∷ oneToOne 48 following (λ c s x y. unaryOf Neg x) neg 7
     ∷ twoToOne 49 Sub sub 9
     ∷ twoToOne 50 Xor xor 15
     ∷ twoToNone 56 (λ c x y. cond (eqb y 0) (wrap (c + 1)) (wrap (c + x))) neqBranch 21
-    ∷ oneToOne 61 onward (λ c s x y. wrap (4 * s + 4 * x)) pushSpAdd 10
+    ∷ oneToOne 61 following (λ c s x y. wrap (4 * s + 4 * x)) pushSpAdd 10
     ∷ []
 
 abbrev pub bytesOf : List Line → List ℕ

@@ -5,7 +5,8 @@ use borrow.Author.Tests.{le-ltb}
 use lib.ListN.{length}
 use Rattle.machine.specs.Run.{place, run}
 use Rattle.routines.specs.Constants.{pageLength}
-use Rattle.report.specs.Printed.{laid, start, session}
+use Rattle.microcode.specs.Laying.{laid}
+use Rattle.report.specs.Printed.{start, session}
 use Rattle.report.proofs.Sessions.{laid-length}
 use borrow.Author.Needs.{needs}
 use Rattle.report.proofs.session.ran.Statement.{statement}
