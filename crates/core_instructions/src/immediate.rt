@@ -5,7 +5,7 @@ use machine::State;
 use memory::WordIndex;
 ghost use mathlib.Core.Path.{_≡_};
 ghost use mathlib.Core.Bool.{true, false};
-ghost use Prim.Native.Nat.{ℕ, _+_, _-_, _*_, _<_, _≤_};
+ghost use Prim.Native.Nat.{_+_, _-_, _*_, _<_, _≤_};
 ghost use Rattle.arithmetic.specs.Words.{wrap};
 ghost use Rattle.machine.specs.Table.{effectOf, extended};
 ghost use Rattle.machine.specs.Instructions.{Instr.IM};

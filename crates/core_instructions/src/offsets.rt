@@ -3,7 +3,6 @@ use machine::Answer;
 use machine::Outcome;
 use machine::State;
 use memory::WordIndex;
-ghost use mathlib.Core.Path.{_≡_};
 ghost use Rattle.machine.specs.Table.{effectOf};
 ghost use Rattle.machine.specs.Instructions.{Instr.STORESP, Instr.LOADSP, Instr.ADDSP};
 ghost use Rattle.machine.specs.Inner.{Ready, Carried};

@@ -22,10 +22,10 @@ use Rattle.machine.specs.Instructions.{Instr, Instr.EMULATE, Instr.BREAK, decod
 use Rattle.machine.specs.Table.{row, effectOf, stepOf}
 use Rattle.machine.specs.Run.{Place, place, steps}
 use Rattle.routines.specs.Constants.{pageLength, firstStackWord, freeWords, stepBound}
-use Rattle.routines.specs.Page.{Short, shorts, code, page, vector}
+use Rattle.routines.specs.Page.{Short, shorts, page}
 use Rattle.routines.proofs.Tests.{both}
 use Rattle.routines.proofs.Entries.{In, at-entry, same-at}
-use Rattle.routines.proofs.Frame.{Frame, words, entered, goal, window}
+use Rattle.routines.proofs.Frame.{Frame, words, entered, goal, window, code, vector}
 use Rattle.routines.proofs.Shorts.{held, in-page, emulated, fitting, fits, ended, runs, Goes, Leaves, laws}
 use Rattle.demand3.proofs.Memory.{Outside, Bytes, outside-same, read-written, read-outside, written-bytes, read-lt}
 use Rattle.demand3.proofs.Steps.{steps-add, one-step}

@@ -8,7 +8,7 @@ use machine::State;
 use machine::Width;
 ghost use mathlib.Core.Path.{_≡_};
 ghost use mathlib.Core.Bool.{false, cond};
-ghost use Prim.Native.Nat.{ℕ, _/_, _%_, _<_};
+ghost use Prim.Native.Nat.{_/_, _%_, _<_};
 ghost use lib.Dec.{eqb};
 ghost use Rattle.machine.specs.declared.Core.the-variants.{Wide};
 ghost use Rattle.machine.specs.Table.{effectOf};

@@ -1,6 +1,6 @@
 // The machine's memory: a lent byte image, read and written at a byte address or a word index.
 ghost use mathlib.Core.Path.{_≡_};
-ghost use Prim.Native.Nat.{ℕ, _+_, _*_, _/_, _%_, _<_, _≤_};
+ghost use Prim.Native.Nat.{_+_, _*_, _/_, _%_, _<_, _≤_};
 ghost use lib.ListN.{length, set};
 ghost use Rattle.memory.specs.Memory.{bytes, setBytes, word};
 ghost use Rattle.memory.specs.Order.{reversed};

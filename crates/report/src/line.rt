@@ -3,7 +3,6 @@ use crate::text;
 use machine::Core;
 use machine::Finish;
 use memory::WordIndex;
-ghost use mathlib.Core.Path.{_≡_};
 ghost use mathlib.Core.List.{_∷_};
 ghost use Prim.Native.Nat.{_+_, _≤_};
 ghost use Rattle.machine.specs.Run.{told};

@@ -14,9 +14,9 @@ use Rattle.machine.specs.Instructions.{Instr, Instr.EMULATE, decode, first, mid
 use Rattle.machine.specs.Effects.{Effect.go}
 use Rattle.machine.specs.Table.{Row, _⇒_, row, put, counter, sp, A, B}
 use Rattle.routines.specs.Constants.{pageLength, freeWords, stepBound}
-use Rattle.routines.specs.Page.{Short, shorts, code, page, vector}
+use Rattle.routines.specs.Page.{Short, shorts, page}
 use Rattle.routines.proofs.Entries.{Each, Each.end, Each._&_}
-use Rattle.routines.proofs.Frame.{Frame, Frame.left, through, entered, goal, window}
+use Rattle.routines.proofs.Frame.{Frame, Frame.left, through, entered, goal, window, code, vector}
 use Rattle.routines.proofs.Comparisons.{less-than, less-than-or-equal, u-less-than, u-less-than-or-equal}
 use Rattle.routines.proofs.Laws.{equal, not-equal, negation, subtraction, exclusive-or, branch, stack-address}
 

@@ -1,5 +1,5 @@
 -- The twelve short instructions as data, and the page that serves them.
-use Prim.Native.Nat.{ℕ, zero, suc, _+_, _-_, _*_}
+use Prim.Native.Nat.{ℕ, zero, suc, _+_, _*_}
 use mathlib.Core.Bool.{cond}
 use mathlib.Core.List.{List, [], _∷_, _++_, map}
 use lib.ListN.{take, replicate}
@@ -9,7 +9,6 @@ use Rattle.arithmetic.specs.Operations.{unaryOf, binaryOf}
 use Rattle.arithmetic.specs.declared.UnOp.the-variants.{Neg}
 use Rattle.arithmetic.specs.declared.BinOp.{BinOp}
 use Rattle.arithmetic.specs.declared.BinOp.the-variants.{LessThan, LessThanOrEqual, ULessThan, ULessThanOrEqual, Eq, Neq, Sub, Xor}
-use Rattle.machine.specs.Instructions.{Instr}
 use Rattle.routines.specs.Constants.{pageLength}
 use Rattle.routines.specs.Routines.{Line, lessThan, lessThanOrEqual, uLessThan, uLessThanOrEqual, call, eq, neq, neg, sub, xor, neqBranch, pushSpAdd}
 
@@ -59,9 +58,6 @@ shorts =
 abbrev pub bytesOf : List Line → List ℕ
 bytesOf = map (λ l. l .0)
 
-abbrev pub code : Short → List Instr
-code o = map (λ l. l .1) (o .lines)
-
 -- unused bytes are NOPs
 abbrev padded : ℕ → List ℕ → List ℕ
 padded n bs = take n (bs ++ replicate n 11)
@@ -78,7 +74,3 @@ vectors (suc n) b = padded 32 (bytesOf (serving shorts b)) ++ vectors n (suc b)
 
 unfoldable pub page : List ℕ
 page = padded pageLength (vectors 32 32)
-
--- where the routine of a byte begins
-abbrev pub vector : ℕ → ℕ
-vector b = 32 * (b - 32)

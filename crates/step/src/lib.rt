@@ -4,7 +4,7 @@ use machine::Core;
 use machine::Outcome;
 use machine::State;
 ghost use mathlib.Core.Path.{_≡_};
-ghost use Prim.Native.Nat.{ℕ, _<_, _≤_};
+ghost use Prim.Native.Nat.{_<_, _≤_};
 ghost use Rattle.machine.specs.declared.Core.the-variants.{Narrow};
 ghost use Rattle.machine.specs.Table.{effectOf, stepOf};
 ghost use Rattle.machine.specs.Instructions.{inverted, decode};

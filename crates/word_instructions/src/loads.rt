@@ -5,7 +5,7 @@ use machine::State;
 use machine::Width;
 use memory::ByteAddr;
 ghost use mathlib.Core.Path.{_≡_};
-ghost use Prim.Native.Nat.{ℕ, _%_, _<_, _≤_};
+ghost use Prim.Native.Nat.{_%_, _<_, _≤_};
 ghost use lib.ListN.{length};
 ghost use Rattle.memory.specs.Memory.{bytes};
 ghost use Rattle.machine.specs.Table.{size, aligned, effectOf};

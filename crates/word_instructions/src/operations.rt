@@ -6,7 +6,6 @@ use machine::Answer;
 use machine::Outcome;
 use machine::State;
 use memory::WordIndex;
-ghost use mathlib.Core.Path.{_≡_};
 ghost use Rattle.machine.specs.Table.{effectOf};
 ghost use Rattle.machine.specs.Instructions.{Instr.unary, Instr.binary, Instr.division};
 ghost use Rattle.machine.specs.Inner.{Ready, Carried};

@@ -6,7 +6,7 @@ use machine::Width;
 use memory::ByteAddr;
 use memory::WordIndex;
 ghost use mathlib.Core.Path.{_≡_};
-ghost use Prim.Native.Nat.{ℕ, _%_, _<_, _≤_};
+ghost use Prim.Native.Nat.{_%_, _<_, _≤_};
 ghost use lib.ListN.{length};
 ghost use Rattle.memory.specs.Memory.{setBytes};
 ghost use Rattle.machine.specs.Table.{size, aligned, effectOf};

@@ -5,7 +5,7 @@ use machine::Finish;
 use machine::Outcome;
 use machine::State;
 ghost use mathlib.Core.Path.{_≡_};
-ghost use Prim.Native.Nat.{ℕ, _+_, _^_, _<_};
+ghost use Prim.Native.Nat.{_+_, _^_, _<_};
 ghost use Rattle.machine.specs.Outcomes.{number};
 ghost use Rattle.machine.specs.Inner.{Ready, finishOf};
 ghost use Rattle.machine.specs.Run.{place, goodLength, runFrom, run, told};

@@ -5,7 +5,7 @@ use memory::ByteAddr;
 use memory::WordIndex;
 use microcode::Laid;
 ghost use mathlib.Core.Path.{_≡_};
-ghost use Prim.Native.Nat.{ℕ, _^_, _<_};
+ghost use Prim.Native.Nat.{_^_, _<_};
 ghost use Rattle.machine.specs.Run.{place, run};
 ghost use Rattle.zpu_c.specs.Values.{coreOf, stateOf, flagOf, Tells};
 ghost use Rattle.microcode.specs.Laying.{Lays};
