@@ -15,6 +15,17 @@
  *
  * Any `length`, `start`, `core` and `limit` is allowed, and every call returns: a
  * run ends after at most `limit` steps.
+ *
+ * The narrow core. It takes each byte from 32 to 63 for EMULATE, so a program for
+ * it needs the microcode page in bytes 0 to 2047 (`zpu_page`), which serves twelve
+ * of those bytes: 36 to 39, 45 to 50, 56 and 61. Each of these needs 16 words free
+ * below its sp and above the page: sp at least 528. Afterwards those 16 words, and
+ * the words that it popped off, may hold something else than on the wide core, and
+ * must be written before they are read again. For one step of the wide core count
+ * at most 200 of the narrow one. docs/PAGE.md has the rest.
+ *
+ * To build: `rt staticlib zpu_c` makes target/staticlib/libzpu_c.a, for x86-64, and
+ *     cc -Iinclude -o program program.c target/staticlib/libzpu_c.a
  */
 #ifndef ZPU_H
 #define ZPU_H
@@ -65,9 +76,9 @@ typedef struct {
  * Runs from `start` until `limit` steps are done, a BREAK, or a refusal.
  *
  * After ZPU_IMAGE or ZPU_START the image is untouched, the steps are 0 and the
- * state is the given one, its flag as 0 or 1. After any other refusal the image and the state are
- * those before the refused instruction, whose address is in `pc`. After
- * ZPU_BREAK `pc` is past the byte 0.
+ * state is the given one, its flag as 0 or 1. After any other refusal the image
+ * and the state are those before the refused instruction, whose address is in
+ * `pc`. After ZPU_BREAK `pc` is past the byte 0.
  */
 zpu_end zpu_run(uint8_t *image, size_t length, zpu_state start, uint32_t core,
                 uint32_t limit);
@@ -75,10 +86,15 @@ zpu_end zpu_run(uint8_t *image, size_t length, zpu_state start, uint32_t core,
 /* A run with limit 1: a step that is carried out gives ZPU_LIMIT or ZPU_BREAK. */
 zpu_end zpu_step(uint8_t *image, size_t length, zpu_state start, uint32_t core);
 
+/* What zpu_page returns. */
+enum {
+    ZPU_PAGE_IN_PLACE = 0,
+    ZPU_PAGE_TOO_SHORT = 2 /* length is under 2,048; the image is untouched */
+};
+
 /*
- * Lays the microcode page over bytes 0 to 2047 and leaves the others. Returns 0,
- * or 2 with the image untouched where `length` is under 2,048. No other length
- * is refused here.
+ * Lays the microcode page over bytes 0 to 2047 and leaves the others. No length
+ * from 2,048 on is refused here.
  */
 uint32_t zpu_page(uint8_t *image, size_t length);
 

@@ -4,8 +4,6 @@
 
 #include "zpu.h"
 
-#define ENTRY 2048
-
 static uint8_t loaded[ZPU_IMAGE_MAX];
 static uint8_t image[ZPU_IMAGE_MAX];
 
@@ -43,7 +41,7 @@ static int run(const char *core, uint32_t number, size_t length, uint32_t limit)
     zpu_state start;
     zpu_end end;
 
-    start.pc = ENTRY;
+    start.pc = ZPU_PAGE_LENGTH;
     start.sp = (uint32_t)(length / 4);
     start.flag = 0;
     memcpy(image, loaded, length);
@@ -66,7 +64,7 @@ int main(int count, char **words)
     wrong = load(words[1], &length);
     if (wrong != NULL)
         return fail(words[1], wrong);
-    if (zpu_page(loaded, length) != 0)
+    if (zpu_page(loaded, length) != ZPU_PAGE_IN_PLACE)
         return fail(words[1], "under 2,048 bytes");
     if (!run("wide", ZPU_WIDE, length, 1000) || !run("narrow", ZPU_NARROW, length, 200000) || fflush(stdout) != 0)
         return fail("run", "cannot print");

@@ -8,7 +8,6 @@ use std::process::ExitCode;
 use zpu::{Core, State};
 
 const LONGEST: usize = 65_536;
-const ENTRY: u32 = 2048;
 
 fn main() -> ExitCode {
     match run_both() {
@@ -48,7 +47,7 @@ fn load(name: &str) -> Result<Vec<u8>, Box<dyn Error>> {
 /// The line without the core: outcome, steps, counter, sp and top.
 fn run(mut image: Vec<u8>, core: Core, limit: u32) -> String {
     let words = (image.len() / 4) as u32;
-    let start = State { pc: ENTRY, sp: words, flag: false };
+    let start = State { pc: zpu::PAGE_LENGTH, sp: words, flag: false };
     let end = zpu::run(&mut image, start, core, limit);
     let State { pc, sp, .. } = end.state;
     let top = if sp == words { "-".to_string() } else { word(&image, sp).to_string() };

@@ -50,10 +50,13 @@ pub fn step(image: &mut [u8], start: State, core: Core) -> End {
     end.into()
 }
 
-/// Lays the microcode page over the first 2,048 bytes. An image with fewer is left alone, and the answer is `false`.
+/// The bytes of the microcode page.
+pub const PAGE_LENGTH: u32 = 2048;
+
+/// Lays the microcode page over the first `PAGE_LENGTH` bytes. An image with fewer is left alone, and the answer is `false`.
 pub fn lay_page(image: &mut [u8]) -> bool {
     // SAFETY: as in `run`.
-    unsafe { ffi::zpu_page(image.as_mut_ptr(), image.len()) == 0 }
+    unsafe { ffi::zpu_page(image.as_mut_ptr(), image.len()) == ffi::ZPU_PAGE_IN_PLACE }
 }
 
 fn number(core: Core) -> u32 {
@@ -110,6 +113,8 @@ mod ffi {
         pub steps: u32,
         pub state: State,
     }
+
+    pub const ZPU_PAGE_IN_PLACE: u32 = 0;
 
     extern "C" {
         pub fn zpu_run(image: *mut u8, length: usize, start: State, core: u32, limit: u32) -> End;

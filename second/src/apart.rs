@@ -1,16 +1,15 @@
 //! These checks can fail: each wrong machine and each wrong page is told from the right one.
 
-use std::collections::BTreeSet;
-
 use crate::bench::Bench;
 use crate::demand3::Pair;
 use crate::dirt::{PAGE, SHORT_ONES};
-use crate::machine::{self, set_word, Core, End, State, LIMIT};
-use crate::page::{self, Tally, OPERANDS};
+use crate::machine::{set_word, Core, End, State};
+use crate::page::{self, vector, Tally, OPERANDS};
+use crate::paths;
 use crate::report::Report;
 use crate::subject::Subject;
 use crate::wrong::{Wrong, WrongMachine};
-use crate::wrong_pages::{Routine, ROUTINES};
+use crate::wrong_pages::{Routine, Spoilt, PATH, ROUTINES, SPOILT, UNUSED_BYTE};
 use crate::{edges, numbers, random, wrong_core, wrong_runs, wrong_wide};
 
 const RANDOM_CASES: u64 = 20_000;
@@ -111,36 +110,10 @@ fn with_operands(subject: &dyn Subject, byte: u8, top: u32, second: u32) -> Vec<
     image
 }
 
-/// The page addresses that a short one passes through on the narrow core. No A leads back into
-/// the page.
-fn routine(subject: &dyn Subject, byte: u8) -> BTreeSet<usize> {
-    let mut passed = BTreeSet::new();
-    for top in [3000, 0x7FFF_FFFF, 0x8000_0000, 0xFFFF_FFFF] {
-        for second in [0, 3, 3000, 0x8000_0000] {
-            let mut image = with_operands(subject, byte, top, second);
-            passed.extend(path(&mut image, OPERANDS_AT));
-        }
-    }
-    passed
-}
-
-fn path(image: &mut [u8], mut state: State) -> Vec<usize> {
-    let mut path = Vec::new();
-    for _ in 0..200 {
-        let end = machine::step(image, state, Core::Narrow);
-        state = end.state;
-        if end.outcome != LIMIT || state.pc as usize >= PAGE {
-            break;
-        }
-        path.push(state.pc as usize);
-    }
-    path
-}
-
-pub fn pages(report: &mut Report, subject: &dyn Subject) {
+pub fn pages(report: &mut Report, subject: &dyn Subject, seed: u64) {
     for (byte, name) in SHORT_ONES {
         if report.case() {
-            changed_bytes(report, subject, byte, name);
+            changed_bytes(report, subject, byte, name, seed);
         }
     }
     for routine in &ROUTINES {
@@ -148,17 +121,22 @@ pub fn pages(report: &mut Report, subject: &dyn Subject) {
             own_routine(report, subject, routine);
         }
     }
+    for spoilt in &SPOILT {
+        if report.case() {
+            spoilt_page(report, subject, spoilt, seed);
+        }
+    }
 }
 
 /// A change of the routine's first byte must be told apart. Of its other bytes it is printed
 /// how many are, since a change may also happen to do no harm.
-fn changed_bytes(report: &mut Report, subject: &dyn Subject, byte: u8, name: &str) {
-    let vector = 32 * (byte as usize - 32);
-    let told = change_is_told_apart(subject, byte, vector);
-    report.expect(told, || format!("wrong page {name}, byte {vector}: not told apart"));
+fn changed_bytes(report: &mut Report, subject: &dyn Subject, byte: u8, name: &str, seed: u64) {
+    let first = vector(byte).start;
+    let told = change_is_told_apart(subject, byte, first);
+    report.expect(told, || format!("wrong page {name}, byte {first}: not told apart"));
     let nops = page_is_told_apart(subject, byte, &|page| page.fill(11));
     report.expect(nops, || format!("page of NOPs, {name}: not told apart"));
-    let passed = routine(subject, byte);
+    let passed = paths::routine(&mut Bench::new(subject, Report::quiet()), byte, name, seed);
     let (told, untold): (Vec<usize>, Vec<usize>) =
         passed.iter().partition(|&&at| change_is_told_apart(subject, byte, at));
     let (bytes, all) = (told.len(), passed.len());
@@ -192,4 +170,27 @@ fn own_routine(report: &mut Report, subject: &dyn Subject, routine: &Routine) {
 fn fails_for(subject: &dyn Subject, byte: u8, top: u32, second: u32) -> bool {
     let image = with_operands(subject, byte, top, second);
     Pair::new(&image, OPERANDS_AT).follow(1).is_err()
+}
+
+/// The page must be told apart by its own sign.
+fn spoilt_page(report: &mut Report, subject: &dyn Subject, spoilt: &Spoilt, seed: u64) {
+    let Spoilt { name, spoil, sign: due } = *spoilt;
+    let used = paths::routines(&mut Bench::new(subject, Report::quiet()), seed);
+    let spoil = |page: &mut [u8]| spoil(page, &used);
+    let sign = sign_of(&WrongPage { right: subject, spoil: &spoil }, seed);
+    report.expect(sign == due, || format!("page with {name}: told by {sign:?}, not by {due:?}"));
+    if let Some(sign) = sign.filter(|_| sign == due) {
+        println!("wrong page {name}: told apart by {sign}");
+    }
+}
+
+/// What the paths tell of this page.
+fn sign_of(subject: &dyn Subject, seed: u64) -> Option<&'static str> {
+    let mut bench = Bench::new(subject, Report::quiet());
+    let used = paths::routines(&mut bench, seed);
+    if bench.report.failed > 0 {
+        return Some(PATH);
+    }
+    paths::unused(&mut bench, &used);
+    (bench.report.failed > 0).then_some(UNUSED_BYTE)
 }

@@ -4,7 +4,7 @@
 use crate::dirt::{is_short_one, touched, Dirt, PAGE};
 use crate::machine::{self, Core, State, LIMIT};
 
-const NARROW_STEPS: u32 = 200;
+pub const NARROW_STEPS: u32 = 200;
 
 /// The same image run on both cores.
 pub struct Pair {

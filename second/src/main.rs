@@ -24,6 +24,7 @@ mod lines;
 mod machine;
 mod numbers;
 mod page;
+mod paths;
 mod program;
 mod random;
 mod report;
@@ -116,7 +117,7 @@ const fn page_part(name: &'static str, work: fn(&mut Bench, &Options)) -> Part {
     Part { name, needs_page: true, work }
 }
 
-const PARTS: [Part; 11] = [
+const PARTS: [Part; 12] = [
     part("own-numbers", |bench, _| with_subject(bench, &Own, numbers::all)),
     part("numbers", |bench, _| numbers::all(bench)),
     part("edges", |bench, _| edges::all(bench)),
@@ -125,11 +126,14 @@ const PARTS: [Part; 11] = [
         random::cases(bench, options.seed, options.count(options.cases))
     }),
     page_part("page", |bench, _| page::rules(bench)),
+    page_part("page-paths", |bench, options| paths::all(bench, options.seed)),
     page_part("page-edges", |bench, _| page_edges(bench)),
     page_part("page-programs", page_programs),
     part("zpurun", |bench, options| lines::all(bench, options.seed)),
     part("wrong-machines", |bench, options| apart::machines(&mut bench.report, options.seed)),
-    page_part("wrong-pages", |bench, _| apart::pages(&mut bench.report, bench.subject)),
+    page_part("wrong-pages", |bench, options| {
+        apart::pages(&mut bench.report, bench.subject, options.seed)
+    }),
 ];
 
 fn with_subject(bench: &mut Bench, subject: &'static dyn Subject, work: fn(&mut Bench)) {

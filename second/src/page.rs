@@ -1,5 +1,7 @@
 //! The microcode page: its rules, the short ones at the edges, random programs.
 
+use std::ops::Range;
+
 use crate::bench::{Bench, Call, Case};
 use crate::demand3::Pair;
 use crate::dirt::{PAGE, SHORT_ONES};
@@ -9,6 +11,12 @@ use crate::rng::Rng;
 use crate::subject::outcome_text;
 
 const FAMILY: u64 = 2;
+
+/// The page addresses of the vector that serves this byte, one of 32 to 63.
+pub fn vector(byte: u8) -> Range<usize> {
+    let first = 32 * (byte as usize - 32);
+    first..first + 32
+}
 
 /// What the programs have put to the page.
 #[derive(Default)]

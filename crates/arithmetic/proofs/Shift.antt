@@ -12,7 +12,8 @@ use Rattle.arithmetic.proofs.Signed.{Sign, low, high, isNeg}
 quotient-fits : (n s : ℕ) → n < 2 ^ 32 → wrap (n / s) ≡ n / s
 quotient-fits n s h = mod-eq-of-lt (lt-of-le-of-lt (div-le-self n s) h)
 
-pub shift-is : {b : ℕ} {z : ℤ} → Sign b z → b < 2 ^ 32 → (s : ℕ) → wordOf (shrZ z s) ≡ cond (isNeg z) (2 ^ 32 - 1 - (2 ^ 32 - 1 - b) / s) (b / s)
+pub shift-is : {b : ℕ} {z : ℤ} → Sign b z → b < 2 ^ 32 → (s : ℕ)
+    → wordOf (shrZ z s) ≡ cond (isNeg z) (2 ^ 32 - 1 - (2 ^ 32 - 1 - b) / s) (b / s)
 unfolding wordOf
 shift-is {b} (low h) hb s = quotient-fits b s hb
 shift-is {b} (high h) hb s = rw (quotient-fits (2 ^ 32 - 1 - b) s (omega arith))

@@ -39,14 +39,15 @@ same x y u v f g =
     ]
 
 -- signed words stand in the order of their distances d and e from the least
-pub order : {a b : ℕ} {y z : ℤ} → Sign a y → Sign b z → (d e : ℕ) → d < 2 ^ 32 → e < 2 ^ 32 → wrap (d + 2 ^ 31) ≡ a → wrap (e + 2 ^ 31) ≡ b → ltb d e ≡ ltZ y z
+pub order : {a b : ℕ} {y z : ℤ} → Sign a y → Sign b z → (d e : ℕ) → d < 2 ^ 32 → e < 2 ^ 32 → wrap (d + 2 ^ 31) ≡ a
+    → wrap (e + 2 ^ 31) ≡ b → ltb d e ≡ ltZ y z
 order {a} {b} (low h) (low k) d e hd he p q = same d e a b (λ l. omega arith) (λ l. omega arith)
 order (low h) (high k) d e hd he p q = le-ltb d e (omega arith)
 order (high h) (low k) d e hd he p q = lt-ltb d e (omega arith)
 order {a} {b} (high h) (high k) d e hd he p q =
     same d e (2 ^ 32 - 1 - b) (2 ^ 32 - 1 - a) (λ l. omega arith) (λ l. omega arith)
 
-not-ltb : (m n : ℕ) → not (ltb n m) ≡ leb m n
+pub not-ltb : (m n : ℕ) → not (ltb n m) ≡ leb m n
 not-ltb m n =
     elim (decLt n m) [
       | yes l ↦ rw (lt-ltb n m l, lt-leb m n l)

@@ -16,12 +16,12 @@ use Rattle.arithmetic.specs.declared.DivOp.the-variants.{Div, Mod}
 abbrev pub shiftFactor : ℕ → ℕ
 shiftFactor a = 2 ^ min a 32
 
-abbrev pub unaryOf : UnOp → ℕ → ℕ
+unfoldable pub unaryOf : UnOp → ℕ → ℕ
 unaryOf Not a = 2 ^ 32 - 1 - a
 unaryOf Flip a = flipped 32 a
 unaryOf Neg a = wrap (2 ^ 32 - a)
 
-abbrev pub binaryOf : BinOp → ℕ → ℕ → ℕ
+unfoldable pub binaryOf : BinOp → ℕ → ℕ → ℕ
 binaryOf Add a b = wrap (a + b)
 binaryOf And a b = bitAnd a b
 binaryOf Or a b = bitOr a b
@@ -39,6 +39,6 @@ binaryOf AShiftLeft a b = wrap (b * shiftFactor a)
 binaryOf AShiftRight a b = wordOf (shrZ (signed b) (shiftFactor a))
 
 -- toward zero, and the remainder with B's sign
-abbrev pub divisionOf : DivOp → ℕ → ℕ → ℕ
+unfoldable pub divisionOf : DivOp → ℕ → ℕ → ℕ
 divisionOf Div a b = wordOf (quotZ (signed b) (signed a))
 divisionOf Mod a b = wordOf (remZ (signed b) (signed a))

@@ -1,4 +1,4 @@
--- The test `between`.
+-- The test `between`, and what lies outside a span.
 use Prim.Native.Nat.{ℕ, _≤_, _<_}
 use mathlib.Core.Path.{_≡_}
 use mathlib.Core.Logic.{inl, inr}
@@ -7,9 +7,9 @@ use native.Mathlib.Omega.{arith}
 use native.Mathlib.Decide.{decLt}
 use borrow.Author.Tests.{le-ltb, lt-leb, le-leb, ltb-false, leb-true, ltb-true}
 use lib.Dec.{ltb, leb}
-use Rattle.routines.proofs.Tests.{both}
+use Rattle.memory.proofs.Tests.{both}
 use Rattle.demand3.specs.Dirt.{between}
-use Rattle.demand3.proofs.Memory.{Outside}
+use Rattle.memory.proofs.Memory.{Outside}
 
 module _ (a e x : ℕ) where
   pub not-between : between a e x ≡ false → Outside a e x
@@ -27,3 +27,13 @@ module _ (a e x : ℕ) where
   pub outside : Outside a e x → between a e x ≡ false
   outside (inl l) = rw (lt-leb a x l)
   outside (inr l) = rw (le-ltb x e l) (and-false (leb a x))
+
+pub narrower : {a e x u v : ℕ} → Outside a e x → a ≤ u → v ≤ e → Outside u v x
+narrower (inl l) h j = inl (omega arith)
+narrower (inr l) h j = inr (omega arith)
+
+-- two spans, of which the second begins before the first ends
+pub past : {a b c e x u v : ℕ} → Outside a b x → Outside c e x → a ≤ u → c ≤ b → v ≤ e → Outside u v x
+past (inl l) k h i j = inl (omega arith)
+past (inr l) (inl k) h i j = absurd (omega arith)
+past (inr l) (inr k) h i j = inr (omega arith)

@@ -1,63 +1,67 @@
--- An instruction's effect depends on no byte but those that it reads: its row's words, and what a load loads.
-use Prim.Native.Nat.{ℕ, _+_, _-_, _*_}
+-- An instruction's effect depends on no byte but those that its row reads.
+use Prim.Native.Nat.{ℕ, _+_}
 use mathlib.Core.Path.{_≡_, refl}
 use mathlib.Core.Bool.{Bool, true, false, cond}
-use mathlib.Core.List.{List, [], _∷_}
-use lib.ListN.{length}
-use Rattle.memory.specs.Memory.{bytes, word}
-use Rattle.arithmetic.specs.Words.{wrap}
+use mathlib.Core.List.{List}
+use lib.Dec.{eqb}
+use Rattle.memory.specs.Memory.{getBytes}
+use Rattle.memory.proofs.Memory.{read-alike}
+use Rattle.machine.specs.declared.Core.the-variants.{Wide}
 use Rattle.machine.specs.declared.State.{State}
-use Rattle.machine.specs.declared.Width.{Width}
-use Rattle.machine.specs.State.{mark}
-use Rattle.machine.specs.Instructions.{Instr, Instr.IM, Instr.STORESP, Instr.LOADSP, Instr.EMULATE, Instr.ADDSP, Instr.PUSHSP, Instr.POPSP, Instr.POPPC, Instr.NOP, Instr.BREAK, Instr.ILLEGAL, Instr.PUSHSPADD, Instr.CALL, Instr.CALLPCREL, Instr.POPPCREL, Instr.PUSHPC, Instr.NEQBRANCH, Instr.EQBRANCH, Instr.unary, Instr.binary, Instr.division, Instr.load, Instr.store}
+use Rattle.machine.specs.State.{Place, place}
 use Rattle.machine.specs.Effects.{Effect}
-use Rattle.machine.specs.Table.{Row, _⇒_, row, put, push, extended, sp, A, reading, effectOf, aligned, size}
+use Rattle.machine.specs.Instructions.{Instr, Instr.IM, Instr.STORESP, Instr.LOADSP, Instr.EMULATE, Instr.ADDSP, Instr.PUSHSP, Instr.POPSP, Instr.POPPC, Instr.NOP, Instr.BREAK, Instr.ILLEGAL, Instr.PUSHSPADD, Instr.CALL, Instr.CALLPCREL, Instr.POPPCREL, Instr.PUSHPC, Instr.NEQBRANCH, Instr.EQBRANCH, Instr.unary, Instr.binary, Instr.division, Instr.load, Instr.store}
+use Rattle.machine.specs.Table.{Act.goes, Row, B, row, reading, doing, effectOf, stepOf}
+use Rattle.demand3.specs.Dirt.{Dirt}
+use Rattle.demand3.specs.Demand3.{spans, Clean, AllClean, Allowed}
+use Rattle.demand3.proofs.Alike.{Alike}
 
-module _ (m m′ : List ℕ) (s : State) (same-length : length m′ ≡ length m) where
-  abbrev pub SameWords : List ℕ → Type 0
-  SameWords [] = Unit {0}
-  SameWords (w ∷ ws) = (word m′ w ≡ word m w) × SameWords ws
+module _ {d : Dirt} {m m′ : List ℕ} (E : Alike d m m′) (s : State) where
+  abbrev carried : List ℕ → Row → Effect
+  carried n r = reading n s (r .reads) (doing n s (r .act))
 
-  abbrev pub SameLoad : Instr → Type 0
-  SameLoad i = (w : Width) → i ≡ load w → bytes m′ (aligned w (A m s)) (size w) ≡ bytes m (aligned w (A m s)) (size w)
+  either-row : (t : Bool) (x y x′ y′ : Row) → (AllClean d (spans x) → carried m′ x′ ≡ carried m x)
+      → (AllClean d (spans y) → carried m′ y′ ≡ carried m y) → AllClean d (spans (cond t x y))
+      → carried m′ (cond t x′ y′) ≡ carried m (cond t x y)
+  either-row true x y x′ y′ h k c = h c
+  either-row false x y x′ y′ h k c = k c
 
-  abbrev im : List ℕ → ℕ → Bool → Row
-  im n v f = cond f (sp n s ∷ [] ⇒ put n s (mark s (sp n s)) (sp n s) (wrap (A n s * 128 + v))) ([] ⇒ push n s (mark s (sp n s - 1)) (extended v))
+  either-way : (t : Bool) (x y : State) → doing m′ s (cond t (goes x) (goes y)) ≡ doing m s (cond t (goes x) (goes y))
+  either-way true x y = refl
+  either-way false x y = refl
 
-  same-im : (v : ℕ) (f : Bool) → SameWords (im m v f .reads) → im m′ v f ≡ im m v f
-  same-im v true r = rw (same-length, r .0)
-  same-im v false r = rw same-length
+  read : (a k : ℕ) → Clean d a k → getBytes m′ a k ≡ getBytes m a k
+  unfolding Clean
+  read a k c = read-alike m m′ a k (λ j h. E .same-bytes (a + j) (c j h))
 
-  same-row : (i : Instr) → SameWords (row m s i .reads) → SameLoad i → row m′ s i ≡ row m s i
-  unfolding row
-  same-row (IM v) r l = same-im v (s .flag) r
-  same-row (STORESP n) r l = rw (same-length, r .0)
-  same-row (LOADSP n) r l = rw (same-length, r .0)
-  same-row (EMULATE k) r l = rw same-length
-  same-row (ADDSP n) r l = rw (same-length, r .0, r .1 .0)
-  same-row PUSHSP r l = rw same-length
-  same-row POPSP r l = rw (same-length, r .0)
-  same-row POPPC r l = rw (r .0)
-  same-row NOP r l = refl
-  same-row BREAK r l = refl
-  same-row ILLEGAL r l = refl
-  same-row PUSHSPADD r l = rw (same-length, r .0)
-  same-row CALL r l = rw (same-length, r .0)
-  same-row CALLPCREL r l = rw (same-length, r .0)
-  same-row POPPCREL r l = rw (r .0)
-  same-row PUSHPC r l = rw same-length
-  same-row NEQBRANCH r l = rw (r .0, r .1 .0)
-  same-row EQBRANCH r l = rw (r .0, r .1 .0)
-  same-row (unary op) r l = rw (same-length, r .0)
-  same-row (binary op) r l = rw (same-length, r .0, r .1 .0)
-  same-row (division op) r l = rw (same-length, r .0, r .1 .0)
-  same-row (load w) r l = rw (same-length, r .0, l w refl)
-  same-row (store w) r l = rw (same-length, r .0, r .1 .0)
+  same-effect : (i : Instr) → AllClean d (spans (row m s i)) → effectOf m′ s i ≡ effectOf m s i
+  unfolding effectOf row
+  same-effect (IM v) c = either-row (s .flag) _ _ _ _ (λ c. rw (E .same-length, read _ _ (c .0))) (λ c. rw (E .same-length)) c
+  same-effect (STORESP n) c = rw (E .same-length, read _ _ (c .0))
+  same-effect (LOADSP n) c = rw (E .same-length, read _ _ (c .0))
+  same-effect (EMULATE k) c = rw (E .same-length)
+  same-effect (ADDSP n) c = rw (E .same-length, read _ _ (c .0), read _ _ (c .1 .0))
+  same-effect PUSHSP c = rw (E .same-length)
+  same-effect POPSP c = rw (E .same-length, read _ _ (c .0))
+  same-effect POPPC c = rw (E .same-length, read _ _ (c .0))
+  same-effect NOP c = refl
+  same-effect BREAK c = refl
+  same-effect ILLEGAL c = refl
+  same-effect PUSHSPADD c = rw (E .same-length, read _ _ (c .0))
+  same-effect CALL c = rw (E .same-length, read _ _ (c .0))
+  same-effect CALLPCREL c = rw (E .same-length, read _ _ (c .0))
+  same-effect POPPCREL c = rw (E .same-length, read _ _ (c .0))
+  same-effect PUSHPC c = rw (E .same-length)
+  same-effect NEQBRANCH c = rw (E .same-length, read _ _ (c .0), read _ _ (c .1 .0), either-way (eqb (B m s) 0))
+  same-effect EQBRANCH c = rw (E .same-length, read _ _ (c .0), read _ _ (c .1 .0), either-way (eqb (B m s) 0))
+  same-effect (unary op) c = rw (E .same-length, read _ _ (c .0))
+  same-effect (binary op) c = rw (E .same-length, read _ _ (c .0), read _ _ (c .1 .0))
+  same-effect (division op) c = rw (E .same-length, read _ _ (c .0), read _ _ (c .1 .0))
+  same-effect (load w) c = rw (E .same-length, read _ _ (c .0), read _ _ (c .1 .0))
+  same-effect (store w) c = rw (E .same-length, read _ _ (c .0), read _ _ (c .1 .0))
 
-  same-reading : (ws : List ℕ) (e : Effect) → reading m′ s ws e ≡ reading m s ws e
-  same-reading [] e = refl
-  same-reading (w ∷ ws) e = rw (same-length, same-reading ws e)
-
-  pub same-effect : (i : Instr) → SameWords (row m s i .reads) → SameLoad i → effectOf m′ s i ≡ effectOf m s i
-  unfolding effectOf
-  same-effect i r l = rw (same-row i r l) (same-reading (row m s i .reads) (row m s i .effect))
+-- so a wide step has one effect on memories that are alike
+pub same-step : {p : Place} {d : Dirt} {m′ : List ℕ} → Alike d (p .memory) m′ → Allowed p d
+    → stepOf Wide (place m′ (p .state)) ≡ stepOf Wide p
+unfolding stepOf
+same-step {p} E F = rw (E .same-length, E .same-bytes (p .state .pc .0) (F .fetch-clean), same-effect E (p .state) _ (F .reads-clean))

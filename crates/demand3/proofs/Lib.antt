@@ -1,10 +1,8 @@
-pub mod Memory
 pub mod Between
-pub mod Steps
-pub mod Dependence
 pub mod Window
 pub mod Emulation
 pub mod Alike
+pub mod Dependence
 pub mod CoreStep
 pub mod ShortStep
 pub mod Theorem

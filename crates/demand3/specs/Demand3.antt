@@ -5,64 +5,66 @@
 use Prim.Native.Nat.{ℕ, zero, suc, _+_, _*_, _≤_, _<_}
 use mathlib.Core.Path.{_≡_}
 use mathlib.Core.Bool.{Bool, true, false, _||_}
-use mathlib.Core.List.{List, [], _∷_}
+use mathlib.Core.List.{List, [], _∷_, _++_, map}
 use mathlib.Core.Option.{some}
 use lib.ListN.{length, getD, take}
 use lib.Dec.{T, ltb, leb}
+use Rattle.memory.specs.Memory.{goodLength}
 use Rattle.machine.specs.declared.Core.the-variants.{Narrow, Wide}
-use Rattle.machine.specs.declared.Width.{Width}
-use Rattle.machine.specs.Instructions.{Instr, Instr.load, decode}
-use Rattle.machine.specs.Table.{row, A, aligned, size}
-use Rattle.machine.specs.Run.{Place, steps, goodLength, landed}
+use Rattle.machine.specs.State.{Place, fetched}
+use Rattle.machine.specs.Effects.{landed}
+use Rattle.machine.specs.Instructions.{decode}
+use Rattle.machine.specs.Table.{Row, row, stepOf}
+use Rattle.machine.specs.Run.{steps}
 use Rattle.routines.specs.Constants.{pageLength, firstStackWord, freeWords, stepBound}
 use Rattle.routines.specs.Page.{page}
-use Rattle.demand3.specs.Dirt.{Dirt, clean, fetched, wideStep, short, writes, dirtied}
+use Rattle.demand3.specs.Dirt.{Dirt, clean, isShort, writes, dirtied}
 
 -- a start with our microcode page in place
-pub record Start (p : Place) : Type 0 where
+pub record WithPage (p : Place) : Type 0 where
   pub good-length : goodLength (length (p .memory)) ≡ true
   pub bytes : (a : ℕ) → getD (p .memory) a 0 < 256
   pub page-in-place : take pageLength (p .memory) ≡ page
 
 -- a core instruction: none of the bytes 32 to 63
-abbrev pub core : ℕ → Bool
-core b = ltb b 32 || leb 64 b
+abbrev pub isCore : ℕ → Bool
+isCore b = ltb b 32 || leb 64 b
+
+-- what a row reads, by address and number of bytes: its stack words, and what it loads
+abbrev pub spans : Row → List (ℕ × ℕ)
+spans r = map (λ w. (4 * w, 4)) (r .reads) ++ r .loads
 
 -- none of the k bytes from a is dirty
 unfoldable pub Clean : Dirt → ℕ → ℕ → Type 0
 Clean d a k = (j : ℕ) → j < k → d (a + j) ≡ false
 
-abbrev pub CleanWords : Dirt → List ℕ → Type 0
-CleanWords d [] = Unit {0}
-CleanWords d (w ∷ ws) = Clean d (4 * w) 4 × CleanWords d ws
-
-abbrev pub instruction : Place → Instr
-instruction p = decode Wide (fetched p)
+abbrev pub AllClean : Dirt → List (ℕ × ℕ) → Type 0
+AllClean d [] = Unit {0}
+AllClean d (b ∷ bs) = Clean d (b .0) (b .1) × AllClean d bs
 
 -- what is asked of a step from p, d being the dirt before it
 pub record Allowed (p : Place) (d : Dirt) : Type 0 where
-  pub core-or-short : T (core (fetched p) || short (fetched p))
+  pub core-or-short : T (isCore (fetched p) || isShort (fetched p))
   -- none writes to the page
-  pub page-kept : (a : ℕ) → T (writes (wideStep p) a) → pageLength ≤ a
+  pub page-kept : (a : ℕ) → T (writes (stepOf Wide p) a) → pageLength ≤ a
   -- each short one has its words free above the page
-  pub room : T (short (fetched p)) → firstStackWord + freeWords ≤ p .state .sp .0
+  pub room : T (isShort (fetched p)) → firstStackWord + freeWords ≤ p .state .sp .0
   -- nothing reads a byte left dirty: neither the fetch, nor the stack's reads, nor LOAD
   pub fetch-clean : d (p .state .pc .0) ≡ false
-  pub stack-clean : CleanWords d (row (p .memory) (p .state) (instruction p) .reads)
-  pub load-clean : (w : Width) → instruction p ≡ load w → Clean d (aligned w (A (p .memory) (p .state))) (size w)
+  pub reads-clean : AllClean d (spans (row (p .memory) (p .state) (decode Wide (fetched p))))
 
 -- each of n wide steps from p is allowed
 unfoldable pub AllAllowed : ℕ → Place → Dirt → Type 0
 AllAllowed zero p d = Unit {0}
-AllAllowed (suc n) p d = Allowed p d × AllAllowed n (landed (wideStep p) p) (dirtied (wideStep p) p d)
+AllAllowed (suc n) p d = Allowed p d × AllAllowed n (landed (stepOf Wide p) p) (dirtied (stepOf Wide p) p d)
 
 -- the dirt after n wide steps from p
 unfoldable pub dirtAfter : ℕ → Place → Dirt → Dirt
 dirtAfter zero p d = d
-dirtAfter (suc n) p d = dirtAfter n (landed (wideStep p) p) (dirtied (wideStep p) p d)
+dirtAfter (suc n) p d = dirtAfter n (landed (stepOf Wide p) p) (dirtied (stepOf Wide p) p d)
 
 -- a run of n wide steps from p to q, none of which stops or is refused
-pub record Run (n : ℕ) (p q : Place) : Type 0 where
+pub record WideRun (n : ℕ) (p q : Place) : Type 0 where
   pub none-stops : steps Wide n p ≡ some q
   pub all-allowed : AllAllowed n p clean
 
@@ -77,4 +79,4 @@ pub record Reached (n : ℕ) (p q : Place) (d : Dirt) : Type 0 where
   pub same-bytes : (a : ℕ) → d a ≡ false → getD (end .memory) a 0 ≡ getD (q .memory) a 0
 
 abbrev pub Demand3 : Type 0
-Demand3 = (n : ℕ) (p q : Place) → Start p → Run n p q → Reached n p q (dirtAfter n p clean)
+Demand3 = (n : ℕ) (p q : Place) → WithPage p → WideRun n p q → Reached n p q (dirtAfter n p clean)

@@ -1,9 +1,9 @@
--- Starts and runs for demand 3: one for each of the twelve, and the printed case.
+-- Starts and runs for demand 3: one for each of the twelve, one with no word to spare, and the printed case.
 use Prim.Native.Nat.{ℕ, _-_, _/_}
 use mathlib.Core.Bool.{false}
 use mathlib.Core.List.{List, [], _∷_, _++_}
 use lib.ListN.{length, replicate}
-use Rattle.machine.specs.Run.{Place, place}
+use Rattle.machine.specs.State.{state, Place, place}
 use Rattle.routines.specs.Constants.{pageLength}
 use Rattle.routines.specs.Page.{page}
 
@@ -11,28 +11,35 @@ use Rattle.routines.specs.Page.{page}
 abbrev pub image : ℕ → List ℕ → List ℕ
 image l program = page ++ (program ++ replicate (l - pageLength - length program) 0)
 
--- a program, started with an empty stack, and where a number of wide steps leads
+-- a program, the counter and sp that it is started with, and where a number of wide steps leads
 pub record Case : Type 0 where
   pub size : ℕ
   pub program : List ℕ
+  pub from : ℕ
+  pub stack : ℕ
   pub count : ℕ
   pub counter : ℕ
   pub sp : ℕ
   pub top : ℕ
 
 abbrev pub start : Case → Place
-start c =
-    place (image (c .size) (c .program))
-    (record { pc = record { 0 = pageLength }; sp = record { 0 = c .size / 4 }; flag = false })
+start c = place (image (c .size) (c .program)) (state (c .from) (c .stack) false)
 
--- the image's length, the program and the steps; then counter, sp and top after them
+-- the image's length and the program; counter and sp at the start; the steps; and counter, sp and top after them
+abbrev caseFrom : ℕ → List ℕ → ℕ → ℕ → ℕ → ℕ → ℕ → ℕ → Case
+caseFrom l bs from stack n pc sp top =
+    record { size = l; program = bs; from = from; stack = stack; count = n; counter = pc; sp = sp; top = top }
+
+-- started at 2048 with an empty stack
 abbrev case : ℕ → List ℕ → ℕ → ℕ → ℕ → ℕ → Case
-case l bs n pc sp top = record { size = l; program = bs; count = n; counter = pc; sp = sp; top = top }
+case l bs = caseFrom l bs pageLength (l / 4)
 
 unfoldable pub cases : List Case
 cases =
     -- LESSTHAN with A = 80000000 and B = 1
     case 2560 (129 ∷ 11 ∷ 248 ∷ 128 ∷ 128 ∷ 128 ∷ 128 ∷ 36 ∷ []) 8 2056 639 1
+    -- the same with sp = 528: its 16 free words are the first above the page
+    ∷ caseFrom 2560 (replicate 64 0 ++ (128 ∷ 0 ∷ 0 ∷ 0 ∷ 0 ∷ 0 ∷ 0 ∷ 1 ∷ 36 ∷ [])) 2120 528 1 2121 529 1
     -- LESSTHANOREQUAL to SUB and XOR, with B = 5 and A = 3
     ∷ case 2560 (133 ∷ 11 ∷ 131 ∷ 37 ∷ []) 4 2052 639 1
     ∷ case 2560 (133 ∷ 11 ∷ 131 ∷ 38 ∷ []) 4 2052 639 1

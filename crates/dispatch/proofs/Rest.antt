@@ -9,7 +9,7 @@ use lib.ListN.{getD, getD-replicate}
 use lib.Dec.{eqb}
 use borrow.Author.Tests.{lt-ltb, le-ltb, eq-eqb, ne-eqb}
 use Rattle.machine.specs.declared.Core.the-variants.{Wide}
-use Rattle.machine.specs.Instructions.{Instr, Instr.ADDSP, Instr.ILLEGAL, low, wide, first, middle, decode, among}
+use Rattle.machine.specs.Instructions.{Instr, Instr.ADDSP, Instr.ILLEGAL, below16, wide32to63, below32, below64, decode, among}
 use Rattle.dispatch.specs.Families.{families}
 
 -- what the last arm of a match on the keys knows, T before it
@@ -43,14 +43,17 @@ others = 0 ∷ 2 ∷ 4 ∷ 11 ∷ 13 ∷ 45 ∷ 55 ∷ 56 ∷ 57 ∷ 59 ∷ 61 �
 abbrev listed : ℕ → Bool
 listed n = among n families || among n others
 
-pub rest : (b : ℕ) → b < 64 → among b families ≡ false → among b others ≡ false → decode Wide b ≡ cond (eqb (b / 16) 1) (ADDSP (b % 16)) ILLEGAL
-unfolding decode first middle
+pub rest : (b : ℕ) → b < 64 → among b families ≡ false → among b others ≡ false
+    → decode Wide b ≡ cond (eqb (b / 16) 1) (ADDSP (b % 16)) ILLEGAL
+unfolding decode below32 below64
 rest b h w m =
     let e : listed b ≡ false = rw (w, m) refl in
     elim (decLt b 16) [
-      | yes l ↦ rw (lt-ltb b 32 (omega arith), lt-ltb b 16 l, ne-eqb (b / 16) 1 (λ q. omega arith)) (left listed low 0 b b (omega arith) e ∙ getD-replicate 16 b ILLEGAL ILLEGAL l)
+      | yes l ↦ rw (lt-ltb b 32 (omega arith), lt-ltb b 16 l, ne-eqb (b / 16) 1 (λ q. omega arith))
+          (left listed below16 0 b b (omega arith) e ∙ getD-replicate 16 b ILLEGAL ILLEGAL l)
       | no l ↦ elim (decLt b 32) [
         | yes k ↦ rw (lt-ltb b 32 k, le-ltb b 16 (omega arith), eq-eqb (b / 16) 1 (omega arith)) refl
-        | no k ↦ rw (le-ltb b 32 (omega arith), lt-ltb b 64 h, ne-eqb (b / 16) 1 (λ q. omega arith)) (left listed wide 32 (b - 32) b (omega arith) e ∙ getD-replicate 32 (b - 32) ILLEGAL ILLEGAL (omega arith))
+        | no k ↦ rw (le-ltb b 32 (omega arith), lt-ltb b 64 h, ne-eqb (b / 16) 1 (λ q. omega arith))
+            (left listed wide32to63 32 (b - 32) b (omega arith) e ∙ getD-replicate 32 (b - 32) ILLEGAL ILLEGAL (omega arith))
       ]
     ]

@@ -1,4 +1,4 @@
--- The bytes below 64 that word_instructions serves: members of a family, which differ in an operation or a width.
+-- The bytes below 64 that data_instructions serves: members of a family, which differ in an operation or a width.
 use Prim.Native.Nat.{ℕ}
 use mathlib.Core.List.{List, [], _∷_}
 

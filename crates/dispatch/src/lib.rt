@@ -22,7 +22,7 @@ fn addsp_or_illegal(image: &mut [u8], s: State, byte: u8) -> Answer
     ensures { λ r. ⌜ Carried (now (image .entry)) s (effectOf (now (image .entry)) s (cond (eqb (byte / 16) 1) (ADDSP (byte % 16)) ILLEGAL)) r (now (image .exit)) ⌝ }
 {
     if byte / 16 == 1 {
-        return core_instructions::addsp(image, s, byte % 16);
+        return stack_instructions::addsp(image, s, byte % 16);
     }
     Answer::Refused(s, Outcome::Illegal)
 }
@@ -35,54 +35,54 @@ fn others(image: &mut [u8], s: State, byte: u8) -> Answer
 {
     match byte {
         0 => Answer::Broke(s.next(s.sp)),
-        2 => core_instructions::pushsp(image, s),
-        4 => core_instructions::poppc(image, s),
+        2 => stack_instructions::pushsp(image, s),
+        4 => jump_instructions::poppc(image, s),
         11 => Answer::Done(s.next(s.sp)),
-        13 => core_instructions::popsp(image, s),
-        45 => wide_instructions::call(image, s),
-        55 => wide_instructions::eqbranch(image, s),
-        56 => wide_instructions::neqbranch(image, s),
-        57 => wide_instructions::poppcrel(image, s),
-        59 => wide_instructions::pushpc(image, s),
-        61 => wide_instructions::pushspadd(image, s),
-        63 => wide_instructions::callpcrel(image, s),
+        13 => stack_instructions::popsp(image, s),
+        45 => jump_instructions::call(image, s),
+        55 => jump_instructions::eqbranch(image, s),
+        56 => jump_instructions::neqbranch(image, s),
+        57 => jump_instructions::poppcrel(image, s),
+        59 => stack_instructions::pushpc(image, s),
+        61 => stack_instructions::pushspadd(image, s),
+        63 => jump_instructions::callpcrel(image, s),
         _ => addsp_or_illegal(image, s, byte),
     }
 }
 
 // The families, and the other instructions.
-pub fn wide(image: &mut [u8], s: State, byte: u8) -> Answer
+pub fn below_64(image: &mut [u8], s: State, byte: u8) -> Answer
     requires { ⌜ Ready (now image) s ⌝ }
     requires { ⌜ byte < 64 ⌝ }
     ensures { λ r. ⌜ Carried (now (image .entry)) s (effectOf (now (image .entry)) s (decode Wide byte)) r (now (image .exit)) ⌝ }
 {
     match byte {
-        5 => word_instructions::binary(image, s, BinOp::Add),
-        6 => word_instructions::binary(image, s, BinOp::And),
-        7 => word_instructions::binary(image, s, BinOp::Or),
-        8 => word_instructions::load(image, s, Width::Word),
-        9 => word_instructions::unary(image, s, UnOp::Not),
-        10 => word_instructions::unary(image, s, UnOp::Flip),
-        12 => word_instructions::store(image, s, Width::Word),
-        34 => word_instructions::load(image, s, Width::Half),
-        35 => word_instructions::store(image, s, Width::Half),
-        36 => word_instructions::binary(image, s, BinOp::LessThan),
-        37 => word_instructions::binary(image, s, BinOp::LessThanOrEqual),
-        38 => word_instructions::binary(image, s, BinOp::ULessThan),
-        39 => word_instructions::binary(image, s, BinOp::ULessThanOrEqual),
-        41 => word_instructions::binary(image, s, BinOp::Mult),
-        42 => word_instructions::binary(image, s, BinOp::LShiftRight),
-        43 => word_instructions::binary(image, s, BinOp::AShiftLeft),
-        44 => word_instructions::binary(image, s, BinOp::AShiftRight),
-        46 => word_instructions::binary(image, s, BinOp::Eq),
-        47 => word_instructions::binary(image, s, BinOp::Neq),
-        48 => word_instructions::unary(image, s, UnOp::Neg),
-        49 => word_instructions::binary(image, s, BinOp::Sub),
-        50 => word_instructions::binary(image, s, BinOp::Xor),
-        51 => word_instructions::load(image, s, Width::Byte),
-        52 => word_instructions::store(image, s, Width::Byte),
-        53 => word_instructions::division(image, s, DivOp::Div),
-        54 => word_instructions::division(image, s, DivOp::Mod),
+        5 => data_instructions::binary(image, s, BinOp::Add),
+        6 => data_instructions::binary(image, s, BinOp::And),
+        7 => data_instructions::binary(image, s, BinOp::Or),
+        8 => data_instructions::load(image, s, Width::Word),
+        9 => data_instructions::unary(image, s, UnOp::Not),
+        10 => data_instructions::unary(image, s, UnOp::Flip),
+        12 => data_instructions::store(image, s, Width::Word),
+        34 => data_instructions::load(image, s, Width::Half),
+        35 => data_instructions::store(image, s, Width::Half),
+        36 => data_instructions::binary(image, s, BinOp::LessThan),
+        37 => data_instructions::binary(image, s, BinOp::LessThanOrEqual),
+        38 => data_instructions::binary(image, s, BinOp::ULessThan),
+        39 => data_instructions::binary(image, s, BinOp::ULessThanOrEqual),
+        41 => data_instructions::binary(image, s, BinOp::Mult),
+        42 => data_instructions::binary(image, s, BinOp::LShiftRight),
+        43 => data_instructions::binary(image, s, BinOp::AShiftLeft),
+        44 => data_instructions::binary(image, s, BinOp::AShiftRight),
+        46 => data_instructions::binary(image, s, BinOp::Eq),
+        47 => data_instructions::binary(image, s, BinOp::Neq),
+        48 => data_instructions::unary(image, s, UnOp::Neg),
+        49 => data_instructions::binary(image, s, BinOp::Sub),
+        50 => data_instructions::binary(image, s, BinOp::Xor),
+        51 => data_instructions::load(image, s, Width::Byte),
+        52 => data_instructions::store(image, s, Width::Byte),
+        53 => data_instructions::division(image, s, DivOp::Div),
+        54 => data_instructions::division(image, s, DivOp::Mod),
         _ => others(image, s, byte),
     }
 }

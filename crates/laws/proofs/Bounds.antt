@@ -5,31 +5,33 @@ use mathlib.Core.Bool.{Bool, true, false}
 use native.Mathlib.Omega.{arith}
 use native.Mathlib.Decide.{decLt}
 use lib.ListN.{length}
-use Rattle.memory.specs.Memory.{setBytes}
-use Rattle.memory.proofs.Lengths.{length-setBytes}
+use Rattle.memory.specs.Memory.{setBytes, goodLength}
+use Rattle.machine.specs.State.{Place, place}
+use Rattle.machine.specs.Effects.{Effect, Effect.refuse, Effect.stop, Effect.go}
+use Rattle.machine.specs.Run.{Ran, after, runFrom, run}
+use Rattle.memory.proofs.Memory.{length-setBytes}
+use Rattle.memory.proofs.Lengths.{good}
 use Rattle.machine.specs.declared.Core.{Core}
-use Rattle.machine.specs.Effects.{Effect, Effect.refuse, Effect.stop, Effect.go, Effect.write}
-use Rattle.machine.specs.Run.{Place, place, Ran, after, runFrom, goodLength, run}
 use Rattle.laws.proofs.Kept.{Within, step-in}
-use Rattle.laws.proofs.Steps.{effectAt}
-use Rattle.laws.proofs.Turns.{good, run-image, run-start, run-goes}
+use Rattle.machine.specs.Table.{stepOf}
+use Rattle.laws.proofs.Turns.{run-image, run-start, run-goes}
 
 -- the run ends in memory of length l, its stack pointer inside it
 abbrev pub AtEnd : ℕ → Ran → Type 0
 AtEnd l r = (length (r .place .memory) ≡ l) × (r .place .state .sp .0 ≤ l / 4)
 
-pub inside : (core : Core) (k n : ℕ) (p : Place) → p .state .sp .0 ≤ length (p .memory) / 4 → AtEnd (length (p .memory)) (runFrom core k n p)
+pub inside : (core : Core) (k n : ℕ) (p : Place) → p .state .sp .0 ≤ length (p .memory) / 4
+    → AtEnd (length (p .memory)) (runFrom core k n p)
 unfolding runFrom
 inside core zero n p h = (refl, h)
-inside core (suc k) n p h = by-effect (effectAt core p) (step-in (p .memory) (p .state) h core) (inside core k (n + 1))
+inside core (suc k) n p h = by-effect (stepOf core p) (step-in (p .memory) (p .state) h core) (inside core k (n + 1))
   where
     by-effect : (e : Effect) → Within (length (p .memory) / 4) e
         → ((q : Place) → q .state .sp .0 ≤ length (q .memory) / 4 → AtEnd (length (q .memory)) (runFrom core k (n + 1) q))
         → AtEnd (length (p .memory)) (after e n p (runFrom core k))
     by-effect (refuse o) w more = (refl, h)
     by-effect (stop t) w more = (refl, w)
-    by-effect (go t) w more = more (place (p .memory) t) w
-    by-effect (write t a j v) w more =
+    by-effect (go t a j v) w more =
         let e : length (setBytes (p .memory) a j v) ≡ length (p .memory) = length-setBytes (p .memory) a j v in
         rw e at (more (place (setBytes (p .memory) a j v) t) (rw e w))
 
@@ -45,4 +47,5 @@ sp-fits core limit p h = by-image (goodLength (length (p .memory))) refl
         by-start : Dec (length (p .memory) / 4 < p .state .sp .0) → run core limit p .place .state .sp .0 < 2 ^ 32
         by-start (yes k) = rw (run-start core limit (p .memory) (p .state) e k) h
         by-start (no k) =
-            rw (run-goes core limit (p .memory) (p .state) e (omega arith)) (omega (arith, good (length (p .memory)) e .0, inside core limit 0 p (omega arith) .1))
+            rw (run-goes core limit (p .memory) (p .state) e (omega arith))
+            (omega (arith, good (length (p .memory)) e, inside core limit 0 p (omega arith) .1))

@@ -1,16 +1,23 @@
 -- The marked numbers of document 01, as one list with one proof: what the definitions give, and what the paper says.
-use Prim.Native.Nat.{ℕ, _-_}
+use Prim.Native.Nat.{ℕ, _+_, _-_}
 use mathlib.Core.Path.{_≡_, refl}
 use mathlib.Core.Bool.{false}
 use mathlib.Core.List.{List, [], _∷_, _++_, map}
+use native.Mathlib.Omega.{arith}
+use lib.IntN.{ℤ, pos, negsuc}
 use lib.ListN.{length, replicate}
-use Rattle.memory.specs.Memory.{bytes, setBytes, word}
+use lib.Signed.{ltZ}
+use borrow.Author.Tests.{le-ltb}
+use Rattle.memory.specs.Memory.{getBytes, setBytes, word, goodLength}
+use Rattle.machine.specs.State.{state, next, place}
+use Rattle.machine.specs.Run.{Ran, runFrom, run}
+use Rattle.arithmetic.specs.Operations.{unaryOf, binaryOf, divisionOf}
 use Rattle.arithmetic.specs.Words.{signed, wordOf, flipped}
 use Rattle.machine.specs.declared.Core.{Core}
 use Rattle.machine.specs.declared.Core.the-variants.{Narrow, Wide}
-use Rattle.machine.specs.Instructions.{first, middle, decode}
-use Rattle.machine.specs.Table.{row, effectOf, stepOf}
-use Rattle.machine.specs.Run.{place, Ran, runFrom, goodLength, run}
+use Rattle.machine.specs.declared.State.{State}
+use Rattle.machine.specs.Instructions.{below32, below64, decode}
+use Rattle.machine.specs.Table.{Act.puts, _⇒_, sp, A, B, row, effectOf, stepOf}
 
 -- 2,560 bytes with code at 2100 and words at 2400, which is word 600
 abbrev image : List ℕ → List ℕ → List ℕ
@@ -21,7 +28,7 @@ image code stack =
 abbrev ran : Core → List ℕ → List ℕ → Ran
 ran core code stack =
     run core (length code)
-    (place (image code stack) (record { pc = record { 0 = 2100 }; sp = record { 0 = 600 }; flag = false }))
+    (place (image code stack) (state 2100 600 false))
 
 -- a word's bytes
 abbrev w : ℕ → ℕ → ℕ → ℕ → List ℕ → List ℕ
@@ -74,5 +81,15 @@ abbrev expected : Case → List ℕ
 expected c = 0 ∷ length (c .code) ∷ c .sp ∷ c .counter ∷ c .top ∷ []
 
 pub marked : map (λ c. seen (ran (c .core) (c .code) (c .stack))) cases ≡ map expected cases
-unfolding bytes setBytes signed wordOf flipped first middle decode row effectOf stepOf runFrom goodLength run
+unfolding unaryOf binaryOf divisionOf getBytes setBytes signed wordOf flipped below32 below64 decode row effectOf stepOf runFrom goodLength run
 marked = refl
+
+not-less-than-itself : (z : ℤ) → ltZ z z ≡ false
+not-less-than-itself (pos n) = le-ltb n n (omega arith)
+not-less-than-itself (negsuc n) = le-ltb n n (omega arith)
+
+-- LESSTHAN, A = B: 0, for every A
+pub less-than-same : (m : List ℕ) (s : State) → A m s ≡ B m s
+    → row m s (decode Wide 36) ≡ (sp m s ∷ (sp m s + 1) ∷ [] ⇒ puts (next s (sp m s + 1)) (sp m s + 1) 0)
+unfolding binaryOf below64 decode row
+less-than-same m s h = rw (h, not-less-than-itself)

@@ -9,7 +9,9 @@ use Rattle.machine.specs.declared.Core.{Core}
 use Rattle.machine.specs.declared.Outcome.{Outcome}
 use Rattle.machine.specs.declared.Outcome.the-variants.{Limit, Break, Image, Start}
 use Rattle.machine.specs.Outcomes.{number}
-use Rattle.machine.specs.Run.{Place, steps, Ran, ended, goodLength, run}
+use Rattle.memory.specs.Memory.{goodLength}
+use Rattle.machine.specs.State.{Place}
+use Rattle.machine.specs.Run.{steps, Ran, ended, run}
 use Rattle.laws.specs.Ends.{Listed, LeavesAll, Ends, Ends.by-limit, Ends.by-break, Ends.by-refusal}
 use Rattle.laws.proofs.Turns.{run-image, run-start}
 use Rattle.laws.proofs.Demand2.{demand2}
@@ -30,7 +32,8 @@ module _ (core : Core) (limit : ℕ) (p : Place) where
       × (r .outcome ≡ 2 → goodLength (length (p .memory)) ≡ false)
       × (r .outcome ≡ 3 → length (p .memory) / 4 < p .state .sp .0)
 
-  entry : (o : Outcome) → (number o ≡ 2 → goodLength (length (p .memory)) ≡ false) → (number o ≡ 3 → length (p .memory) / 4 < p .state .sp .0)
+  entry : (o : Outcome) → (number o ≡ 2 → goodLength (length (p .memory)) ≡ false)
+      → (number o ≡ 3 → length (p .memory) / 4 < p .state .sp .0)
       → Kind (ended o 0 p)
   unfolding steps
   entry o image start = ((o, refl), λ _. refl, λ _ _. (refl, refl), image, start)

@@ -6,15 +6,17 @@ use native.Mathlib.Nat.{add-zero, zero-add}
 use native.Mathlib.Omega.{arith}
 use lib.ListN.{length}
 use Rattle.memory.specs.Memory.{setBytes}
-use Rattle.memory.proofs.Lengths.{length-setBytes}
+use Rattle.machine.specs.State.{Place, place}
+use Rattle.machine.specs.Effects.{Effect, Effect.refuse, Effect.stop, Effect.go}
+use Rattle.machine.specs.Run.{steps, ended, after, runFrom, run}
+use Rattle.memory.proofs.Memory.{length-setBytes}
 use Rattle.machine.specs.declared.Core.{Core}
 use Rattle.machine.specs.declared.State.{State}
 use Rattle.machine.specs.declared.Outcome.{Outcome}
 use Rattle.machine.specs.declared.Outcome.the-variants.{Limit, Break}
-use Rattle.machine.specs.Effects.{Effect, Effect.refuse, Effect.stop, Effect.go, Effect.write}
-use Rattle.machine.specs.Run.{Place, place, steps, ended, after, runFrom, run}
 use Rattle.laws.specs.Ends.{Admitted, Ends, Ends.by-limit, Ends.by-break, Ends.by-refusal}
-use Rattle.laws.proofs.Steps.{effectAt, steps-add, run-follows}
+use Rattle.machine.specs.Table.{stepOf}
+use Rattle.laws.proofs.Steps.{steps-add, run-follows}
 use Rattle.laws.proofs.Kept.{Within, step-in}
 use Rattle.laws.proofs.Turns.{run-goes}
 
@@ -28,17 +30,16 @@ module _ (core : Core) (limit : ℕ) (p : Place) where
   walk zero n q i e h =
       let z : n ≡ limit = omega arith in rw z (by-limit (subst (λ (x : ℕ). steps core x p ≡ some q) z h))
   walk (suc k) n q i e h =
-      by-effect (effectAt core q) (step-in (q .memory) (q .state) i core)
+      by-effect (stepOf core q) (step-in (q .memory) (q .state) i core)
       (λ r j s. walk k (n + 1) r j (omega arith) (steps-add core n 1 p q h ∙ s))
       refl
     where
       by-effect : (x : Effect) → Within (length (q .memory) / 4) x
-          → ((r : Place) → In r → steps core 1 q ≡ some r → Ends core limit p (runFrom core k (n + 1) r)) → effectAt core q ≡ x
+          → ((r : Place) → In r → steps core 1 q ≡ some r → Ends core limit p (runFrom core k (n + 1) r)) → stepOf core q ≡ x
           → Ends core limit p (after x n q (runFrom core k))
       by-effect (refuse o) w f s = by-refusal {n = n} (omega arith) w h s
       by-effect (stop t) w f s = by-break {n = n} (omega arith) h s
-      by-effect (go t) w f s = f (place (q .memory) t) w (rw s)
-      by-effect (write t a b v) w f s =
+      by-effect (go t a b v) w f s =
           f (place (setBytes (q .memory) a b v) t) (rw (length-setBytes (q .memory) a b v) w) (rw s)
 
   module _ (a : Admitted p) where
@@ -59,13 +60,14 @@ unfolding runFrom
 limit-first core n p q a h = counted core n p a n 0 q (add-zero n) h
 
 -- BREAK on the last allowed step is 1, counted, with its own state
-pub break-on-the-last : (core : Core) (n : ℕ) (p q : Place) (t : State) → Admitted p → steps core n p ≡ some q → effectAt core q ≡ stop t
+pub break-on-the-last : (core : Core) (n : ℕ) (p q : Place) (t : State) → Admitted p → steps core n p ≡ some q → stepOf core q ≡ stop t
     → run core (n + 1) p ≡ ended Break (n + 1) (place (q .memory) t)
 unfolding runFrom
 break-on-the-last core n p q t a h s = counted core (n + 1) p a n 1 q refl h ∙ rw s
 
 -- a refused instruction counts no step
-pub refused-uncounted : (core : Core) (n k : ℕ) (p q : Place) (o : Outcome) → Admitted p → steps core n p ≡ some q → effectAt core q ≡ refuse o
+pub refused-uncounted : (core : Core) (n k : ℕ) (p q : Place) (o : Outcome) → Admitted p → steps core n p ≡ some q
+    → stepOf core q ≡ refuse o
     → run core (n + suc k) p ≡ ended o n q
 unfolding runFrom
 refused-uncounted core n k p q o a h s = counted core (n + suc k) p a n (suc k) q refl h ∙ rw s

@@ -6,4 +6,6 @@ pub mod Demand2
 pub mod Unique
 pub mod Bounds
 pub mod Cases
+pub mod Refusals
+pub mod Given
 pub mod Instances

@@ -1,43 +1,69 @@
 -- Steps in order: n steps and then m are n + m, and a run follows them.
 use Prim.Native.Nat.{ℕ, zero, suc, _+_}
-use mathlib.Core.Path.{_≡_, ap, _∙_}
-use mathlib.Core.Option.{none, some}
+use mathlib.Core.Path.{_≡_, refl, ap, _∙_}
+use mathlib.Core.Option.{Option, none, some}
 use native.Mathlib.Nat.{add-zero, zero-add, suc-add}
 use native.Mathlib.Omega.{arith}
 use Rattle.machine.specs.declared.Core.{Core}
-use Rattle.machine.specs.Effects.{Effect, Effect.refuse, Effect.stop, Effect.go, Effect.write}
+use Rattle.machine.specs.State.{Place}
+use Rattle.machine.specs.Effects.{Effect, Effect.refuse, Effect.stop, Effect.go, landed}
+use Rattle.machine.specs.Run.{Ran, onward, steps, after, runFrom}
 use Rattle.machine.specs.Table.{stepOf}
-use Rattle.machine.specs.Run.{Place, onward, steps, after, runFrom}
+
+-- the effect is neither a refusal nor a stop
+abbrev pub Goes : Effect → Type 0
+Goes (refuse o) = ⊥
+Goes (stop t) = ⊥
+Goes (go t a k v) = Unit {0}
 
 none-is-not-some : {q : Place} → none ≡ some q → ⊥
 none-is-not-some h = let z : _≡_ {A = ℕ} 0 1 = cc in omega arith
 
+went : (e : Effect) (p : Place) {q : Place} (more : Place → Option Place) → onward e p more ≡ some q
+    → Goes e × (more (landed e p) ≡ some q)
+went (refuse o) p more h = absurd (none-is-not-some h)
+went (stop t) p more h = absurd (none-is-not-some h)
+went (go t a k v) p more h = (tt, h)
+
+pub goes-on : (e : Effect) (p : Place) (more : Place → Option Place) → Goes e → onward e p more ≡ more (landed e p)
+goes-on (refuse o) p more g = absurd g
+goes-on (stop t) p more g = absurd g
+goes-on (go t a k v) p more g = refl
+
+run-goes-on : (e : Effect) (n : ℕ) (p : Place) (more : ℕ → Place → Ran) → Goes e → after e n p more ≡ more (n + 1) (landed e p)
+run-goes-on (refuse o) n p more g = absurd g
+run-goes-on (stop t) n p more g = absurd g
+run-goes-on (go t a k v) n p more g = refl
+
 module _ (core : Core) where
-  abbrev pub effectAt : Place → Effect
-  effectAt p = stepOf core (p .memory) (p .state)
+  -- the first of several steps
+  pub first-step : (n : ℕ) (p : Place) {q : Place} → steps core (suc n) p ≡ some q
+      → Goes (stepOf core p) × (steps core n (landed (stepOf core p) p) ≡ some q)
+  unfolding steps
+  first-step n p h = went (stepOf core p) p (steps core n) h
+
+  pub no-step : (p : Place) → steps core 0 p ≡ some p
+  unfolding steps
+  no-step p = refl
+
+  pub one-step : (p q : Place) → onward (stepOf core p) p some ≡ some q → steps core 1 p ≡ some q
+  unfolding steps
+  one-step p q h = h
 
   pub steps-add : (n m : ℕ) (p q : Place) → steps core n p ≡ some q → steps core (n + m) p ≡ steps core m q
   unfolding steps
   steps-add zero m p q h = let e : p ≡ q = cc in rw (zero-add, e)
-  steps-add (suc n) m p q h = rw suc-add (by-effect (effectAt p) (λ r k. steps-add n m r q k) h)
-    where
-      by-effect : (e : Effect) → ((r : Place) → steps core n r ≡ some q → steps core (n + m) r ≡ steps core m q)
-          → onward e p (steps core n) ≡ some q → onward e p (steps core (n + m)) ≡ steps core m q
-      by-effect (refuse o) f h = absurd (none-is-not-some h)
-      by-effect (stop t) f h = absurd (none-is-not-some h)
-      by-effect (go t) f h = f _ h
-      by-effect (write t a k v) f h = f _ h
+  steps-add (suc n) m p q h =
+      let (g, rest) = went (stepOf core p) p (steps core n) h in
+      rw suc-add (goes-on (stepOf core p) p (steps core (n + m)) g ∙ steps-add n m (landed (stepOf core p) p) q rest)
 
   -- n steps done, and the run goes on from there with the count at c + n
   pub run-follows : (n k c : ℕ) (p q : Place) → steps core n p ≡ some q → runFrom core (n + k) c p ≡ runFrom core k (c + n) q
   unfolding steps runFrom
   run-follows zero k c p q h = let e : p ≡ q = cc in rw (zero-add, add-zero, e)
   run-follows (suc n) k c p q h =
-      rw suc-add (by-effect (effectAt p) (λ r j. run-follows n k (c + 1) r q j ∙ ap (λ (x : ℕ). runFrom core k x q) (omega arith)) h)
-    where
-      by-effect : (e : Effect) → ((r : Place) → steps core n r ≡ some q → runFrom core (n + k) (c + 1) r ≡ runFrom core k (c + suc n) q)
-          → onward e p (steps core n) ≡ some q → after e c p (runFrom core (n + k)) ≡ runFrom core k (c + suc n) q
-      by-effect (refuse o) f h = absurd (none-is-not-some h)
-      by-effect (stop t) f h = absurd (none-is-not-some h)
-      by-effect (go t) f h = f _ h
-      by-effect (write t a w v) f h = f _ h
+      let (g, rest) = went (stepOf core p) p (steps core n) h in
+      rw suc-add
+      (run-goes-on (stepOf core p) c p (runFrom core (n + k)) g
+      ∙ run-follows n k (c + 1) (landed (stepOf core p) p) q rest
+      ∙ ap (λ (x : ℕ). runFrom core k x q) (omega arith))

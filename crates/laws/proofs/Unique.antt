@@ -8,7 +8,9 @@ use Rattle.machine.specs.declared.Finish.{Finish}
 use Rattle.machine.specs.declared.Outcome.{Outcome}
 use Rattle.machine.specs.declared.Outcome.the-variants.{Limit, Break, Image, Start, Fetch, Illegal, Stack, Address, Divide}
 use Rattle.machine.specs.Outcomes.{number}
-use Rattle.machine.specs.Run.{Place, Ran, run, told}
+use Rattle.machine.specs.State.{Place}
+use Rattle.machine.specs.Run.{Ran, handedBack, Runs}
+use Rattle.memory.proofs.Tests.{told-apart}
 
 abbrev listed : List Outcome
 listed = Limit ∷ Break ∷ Image ∷ Start ∷ Fetch ∷ Illegal ∷ Stack ∷ Address ∷ Divide ∷ []
@@ -24,18 +26,18 @@ by-number Stack = refl
 by-number Address = refl
 by-number Divide = refl
 
-pub one-outcome : (o u : Outcome) → number o ≡ number u → o ≡ u
-one-outcome o u h = sym (by-number o) ∙ ap (λ (n : ℕ). getD listed n Limit) h ∙ by-number u
+pub one-outcome : {o q : Outcome} → number o ≡ number q → o ≡ q
+one-outcome = told-apart number (λ n. getD listed n Limit) by-number
 
-pub one-result : (core : Core) (limit : ℕ) (p : Place) (f g : Finish) (m n : List ℕ) → told f m ≡ run core limit p → told g n ≡ run core limit p
+pub one-result : (core : Core) (limit : ℕ) (p : Place) (f g : Finish) (m n : List ℕ) → Runs core limit p f m → Runs core limit p g n
     → (f ≡ g) × (m ≡ n)
 one-result core limit p f g m n h k = (same-finish, ap (λ (x : Ran). x .place .memory) e)
   where
-    e : told f m ≡ told g n
+    e : handedBack f m ≡ handedBack g n
     e = h ∙ sym k
 
     same-outcome : f .outcome ≡ g .outcome
-    same-outcome = one-outcome (f .outcome) (g .outcome) (ap (λ (x : Ran). x .outcome) e)
+    same-outcome = one-outcome (ap (λ (x : Ran). x .outcome) e)
 
     same-steps : f .steps ≡ g .steps
     same-steps = ap (λ (x : Ran). x .steps) e

@@ -9,9 +9,11 @@ use Rattle.machine.specs.declared.State.{State}
 use Rattle.machine.specs.declared.Outcome.{Outcome}
 use Rattle.machine.specs.declared.Outcome.the-variants.{Limit, Break}
 use Rattle.machine.specs.Outcomes.{number}
+use Rattle.memory.specs.Memory.{goodLength}
+use Rattle.machine.specs.State.{Place, place}
 use Rattle.machine.specs.Effects.{Effect.refuse, Effect.stop}
+use Rattle.machine.specs.Run.{steps, Ran, ended}
 use Rattle.machine.specs.Table.{stepOf}
-use Rattle.machine.specs.Run.{Place, place, steps, Ran, ended, goodLength}
 
 -- neither IMAGE nor START, which are tested once at entry
 pub record Admitted (p : Place) : Type 0 where
@@ -21,9 +23,9 @@ pub record Admitted (p : Place) : Type 0 where
 pub data Ends (core : Core) (limit : ℕ) (p : Place) : Ran → Type 0 where
   by-limit : {q : Place} → steps core limit p ≡ some q → Ends core limit p (ended Limit limit q)
   by-break : {n : ℕ} {q : Place} {t : State} → n < limit → steps core n p ≡ some q
-      → stepOf core (q .memory) (q .state) ≡ stop t → Ends core limit p (ended Break (n + 1) (place (q .memory) t))
+      → stepOf core q ≡ stop t → Ends core limit p (ended Break (n + 1) (place (q .memory) t))
   by-refusal : {n : ℕ} {q : Place} {o : Outcome} → n < limit → 4 ≤ number o → steps core n p ≡ some q
-      → stepOf core (q .memory) (q .state) ≡ refuse o → Ends core limit p (ended o n q)
+      → stepOf core q ≡ refuse o → Ends core limit p (ended o n q)
 
 -- the outcome is one of the nine
 abbrev pub Listed : Ran → Type 0

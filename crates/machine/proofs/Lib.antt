@@ -1,1 +1,1 @@
-pub mod Offsets
+pub mod Stack

@@ -8,22 +8,24 @@ use Rattle.machine.specs.declared.Answer.{Answer}
 use Rattle.machine.specs.declared.Answer.the-variants.{Done, Broke, Refused}
 use Rattle.machine.specs.declared.Finish.{Finish}
 use Rattle.machine.specs.declared.Outcome.the-variants.{Limit, Break}
-use Rattle.machine.specs.Effects.{Effect, Effect.refuse, Effect.stop, Effect.go, Effect.write, memoryAfter}
+use Rattle.machine.specs.Effects.{Effect, Effect.refuse, Effect.stop, Effect.go, memoryAfter}
 
 -- what holds of memory and state from the run's entry on
-abbrev pub Ready : List ℕ → State → Type 0
-Ready m s = (length m ≤ 65536) × (length m % 4 ≡ 0) × (s .sp .0 ≤ length m / 4)
+pub record Ready (m : List ℕ) (s : State) : Type 0 where
+  pub not-over : length m ≤ 65536
+  pub whole : length m % 4 ≡ 0
+  pub sp-inside : s .sp .0 ≤ length m / 4
 
 -- what a step from s answers
 abbrev pub answerOf : State → Effect → Answer
 answerOf s (refuse o) = Refused s o
 answerOf s (stop t) = Broke t
-answerOf s (go t) = Done t
-answerOf s (write t a k v) = Done t
+answerOf s (go t a k v) = Done t
 
 -- e was carried out from m and s: r was answered, and m′ is memory then
-abbrev pub Carried : List ℕ → State → Effect → Answer → List ℕ → Type 0
-Carried m s e r m′ = (r ≡ answerOf s e) × (m′ ≡ memoryAfter m e)
+pub record Carried (m : List ℕ) (s : State) (e : Effect) (r : Answer) (m′ : List ℕ) : Type 0 where
+  pub answer : r ≡ answerOf s e
+  pub memory : m′ ≡ memoryAfter m e
 
 -- how a run ends by an answer, n steps before it
 abbrev pub finishOf : Answer → ℕ → Finish

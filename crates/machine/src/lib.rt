@@ -4,7 +4,7 @@ use memory::WordIndex;
 ghost use mathlib.Core.Path.{_≡_};
 ghost use Prim.Native.Nat.{_+_};
 ghost use Rattle.arithmetic.specs.Words.{wrap};
-ghost use Rattle.machine.specs.State.{next, jump, mark};
+ghost use Rattle.machine.specs.State.{next, nextFlagged, jump};
 
 pub enum Core {
     Narrow,
@@ -54,8 +54,8 @@ impl State {
         }
     }
 
-    pub fn mark(self, sp: WordIndex) -> State
-        ensures { λ r. ⌜ r ≡ mark self (sp .0) ⌝ }
+    pub fn next_flagged(self, sp: WordIndex) -> State
+        ensures { λ r. ⌜ r ≡ nextFlagged self (sp .0) ⌝ }
     {
         State {
             pc: self.following(),

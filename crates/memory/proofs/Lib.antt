@@ -1,3 +1,5 @@
+pub mod Tests
+pub mod Memory
 pub mod Lengths
 pub mod Order
 pub mod Widths

@@ -17,25 +17,40 @@ module _ (a b c d n : ℕ) (is : n ≡ a + b * 256 + c * 65536 + d * 16777216) w
   pub highest : a < 256 → b < 256 → c < 256 → n / 16777216 ≡ d
   highest ha hb hc = omega arith
 
-pub of-four : (a b c d : ℕ) → a < 256 → b < 256 → c < 256 → d < 256 → reversed (a + b * 256 + c * 65536 + d * 16777216) ≡ ((a * 256 + b) * 256 + c) * 256 + d
+pub of-four : (a b c d : ℕ) → a < 256 → b < 256 → c < 256 → d < 256
+    → reversed (a + b * 256 + c * 65536 + d * 16777216) ≡ ((a * 256 + b) * 256 + c) * 256 + d
 of-four a b c d ha hb hc hd =
-    rw (lowest a b c d (a + b * 256 + c * 65536 + d * 16777216) refl ha, second a b c d (a + b * 256 + c * 65536 + d * 16777216) refl ha hb, third a b c d (a + b * 256 + c * 65536 + d * 16777216) refl ha hb hc, highest a b c d (a + b * 256 + c * 65536 + d * 16777216) refl ha hb hc) (omega arith)
+    let n : ℕ = a + b * 256 + c * 65536 + d * 16777216 in
+    rw (lowest a b c d n refl ha, second a b c d n refl ha hb, third a b c d n refl ha hb hc, highest a b c d n refl ha hb hc)
+    (omega arith)
 
 module _ (v : ℕ) (fits : v < 2 ^ 32) where
-  as-digits : reversed v ≡ v / 16777216 + v / 65536 % 256 * 256 + v / 256 % 256 * 65536 + v % 256 * 16777216
+  abbrev d₀ : ℕ
+  d₀ = v / 16777216
+
+  abbrev d₁ : ℕ
+  d₁ = v / 65536 % 256
+
+  abbrev d₂ : ℕ
+  d₂ = v / 256 % 256
+
+  abbrev d₃ : ℕ
+  d₃ = v % 256
+
+  as-digits : reversed v ≡ d₀ + d₁ * 256 + d₂ * 65536 + d₃ * 16777216
   as-digits = omega arith
 
-  top : v / 16777216 < 256
+  top : d₀ < 256
   top = omega arith
 
   pub reversed-lowest : reversed v % 256 ≡ v / 256 / 256 / 256 % 256
-  reversed-lowest = lowest (v / 16777216) (v / 65536 % 256) (v / 256 % 256) (v % 256) (reversed v) as-digits top ∙ omega arith
+  reversed-lowest = lowest d₀ d₁ d₂ d₃ (reversed v) as-digits top ∙ omega arith
 
   pub reversed-second : reversed v / 256 % 256 ≡ v / 256 / 256 % 256
-  reversed-second = second (v / 16777216) (v / 65536 % 256) (v / 256 % 256) (v % 256) (reversed v) as-digits top (omega arith) ∙ omega arith
+  reversed-second = second d₀ d₁ d₂ d₃ (reversed v) as-digits top (omega arith) ∙ omega arith
 
   pub reversed-third : reversed v / 65536 % 256 ≡ v / 256 % 256
-  reversed-third = third (v / 16777216) (v / 65536 % 256) (v / 256 % 256) (v % 256) (reversed v) as-digits top (omega arith) (omega arith)
+  reversed-third = third d₀ d₁ d₂ d₃ (reversed v) as-digits top (omega arith) (omega arith)
 
   pub reversed-highest : reversed v / 16777216 ≡ v % 256
-  reversed-highest = highest (v / 16777216) (v / 65536 % 256) (v / 256 % 256) (v % 256) (reversed v) as-digits top (omega arith) (omega arith)
+  reversed-highest = highest d₀ d₁ d₂ d₃ (reversed v) as-digits top (omega arith) (omega arith)

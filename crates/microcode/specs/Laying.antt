@@ -8,11 +8,11 @@ use lib.Dec.{ltb}
 use Rattle.routines.specs.Constants.{pageLength}
 use Rattle.routines.specs.Page.{page}
 use Rattle.microcode.specs.declared.Laid.{Laid}
-use Rattle.microcode.specs.declared.Laid.the-variants.{Done, TooShort}
+use Rattle.microcode.specs.declared.Laid.the-variants.{InPlace, TooShort}
 
 -- the number of an answer: too short for the page is IMAGE's
 abbrev pub number : Laid → ℕ
-number Done = 0
+number InPlace = 0
 number TooShort = 2
 
 -- the page over the first bytes of m

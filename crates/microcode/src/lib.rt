@@ -5,8 +5,11 @@ pub use page::LENGTH;
 use page::PAGE;
 ghost use Rattle.microcode.specs.Laying.{number, Lays};
 
+// The narrow steps for a wide one, at most.
+pub const STEP_BOUND: u32 = 200;
+
 pub enum Laid {
-    Done,
+    InPlace,
     TooShort,
 }
 
@@ -17,5 +20,5 @@ pub fn lay(image: &mut [u8]) -> Laid
         return Laid::TooShort;
     }
     bytes::copy(&PAGE, image);
-    Laid::Done
+    Laid::InPlace
 }

@@ -1,14 +1,14 @@
 -- A line that zpurun prints: core, outcome, counter, sp and top, a blank between.
-use Prim.Native.Nat.{ℕ, _/_}
+use Prim.Native.Nat.{ℕ, _/_, _≤_}
 use mathlib.Core.Bool.{cond}
 use mathlib.Core.List.{List, [], _∷_, _++_}
 use lib.ListN.{length}
 use lib.Dec.{eqb}
 use Rattle.memory.specs.Memory.{word}
+use Rattle.machine.specs.Run.{Ran}
 use Rattle.machine.specs.declared.Core.{Core}
 use Rattle.machine.specs.declared.Core.the-variants.{Narrow, Wide}
-use Rattle.machine.specs.Run.{Ran}
-use Rattle.report.specs.Decimal.{decimal}
+use Rattle.text.specs.Decimal.{decimal}
 
 -- `wide` or `narrow`
 abbrev pub name : Core → List ℕ
@@ -36,3 +36,19 @@ line core r =
     ++ blank ∷ decimal (r .place .state .sp .0)
     ++ blank ∷ top (r .place .memory) (r .place .state .sp .0)
     ++ lineFeed ∷ []
+
+-- the name of a core takes no more bytes
+abbrev pub nameRoom : ℕ
+nameRoom = 6
+
+-- a blank and a number of 32 bits take no more
+abbrev pub fieldRoom : ℕ
+fieldRoom = 11
+
+-- a line takes no more
+abbrev pub lineRoom : ℕ
+lineRoom = 64
+
+-- a word of memory or the end of it
+abbrev pub Inside : List ℕ → ℕ → Type 0
+Inside m sp = (length m ≤ 65536) × (sp ≤ length m / 4)

@@ -1,14 +1,13 @@
 // A line: core, outcome, counter, sp and top, a blank between.
-use crate::text;
 use machine::Core;
 use machine::Finish;
 use memory::WordIndex;
 ghost use mathlib.Core.List.{_∷_};
 ghost use Prim.Native.Nat.{_+_, _≤_};
-ghost use Rattle.machine.specs.Run.{told};
-ghost use Rattle.report.specs.Decimal.{decimal};
-ghost use Rattle.report.specs.Lines.{name, blank, top, line};
-ghost use Rattle.report.specs.Text.{Puts, Room, Inside, nameRoom, fieldRoom, lineRoom};
+ghost use Rattle.machine.specs.Run.{handedBack};
+ghost use Rattle.text.specs.Decimal.{decimal};
+ghost use Rattle.text.specs.Text.{Puts, Room};
+ghost use Rattle.report.specs.Lines.{name, blank, top, line, Inside, nameRoom, fieldRoom, lineRoom};
 
 fn name(out: &mut [u8], at: usize, core: Core) -> usize
     requires { ⌜ Room nameRoom at (now out) ⌝ }
@@ -38,7 +37,7 @@ fn top(out: &mut [u8], at: usize, image: &[u8], sp: usize) -> usize
     ensures { λ r. ⌜ Puts (blank ∷ top (now (image .entry)) sp) at (now (out .entry)) r (now (out .exit)) ⌝ }
     ensures { λ r. ⌜ r ≤ at + fieldRoom ⌝ }
 {
-    if sp == image.len() / 4 {
+    if sp == memory::words(image).0 {
         return text::letters(out, at, b" -");
     }
     field(out, at, memory::read_word(image, WordIndex(sp)))
@@ -47,7 +46,7 @@ fn top(out: &mut [u8], at: usize, image: &[u8], sp: usize) -> usize
 pub(crate) fn line(out: &mut [u8], at: usize, core: Core, end: Finish, image: &[u8]) -> usize
     requires { ⌜ Room lineRoom at (now out) ⌝ }
     requires { ⌜ Inside (now image) (end .state .sp .0) ⌝ }
-    ensures { λ r. ⌜ Puts (line core (told end (now (image .entry)))) at (now (out .entry)) r (now (out .exit)) ⌝ }
+    ensures { λ r. ⌜ Puts (line core (handedBack end (now (image .entry)))) at (now (out .entry)) r (now (out .exit)) ⌝ }
     ensures { λ r. ⌜ r ≤ at + lineRoom ⌝ }
 {
     let sp = end.state.sp.0;

@@ -10,12 +10,12 @@ use lib.Dec.{ltb}
 use lib.IntN.{pos}
 use lib.Signed.{ltZ}
 use Rattle.arithmetic.specs.Words.{wrap, oneIf, signed}
-use Rattle.arithmetic.specs.Operations.{binaryOf}
+use Rattle.arithmetic.specs.Operations.{unaryOf, binaryOf}
 use Rattle.arithmetic.specs.declared.UnOp.the-variants.{Not}
 use Rattle.arithmetic.specs.declared.BinOp.the-variants.{Add, And, Or, LessThan, LessThanOrEqual, ULessThan, ULessThanOrEqual}
 use Rattle.arithmetic.proofs.Signed.{sign, order, not-less}
-use Rattle.routines.proofs.Frame.{un, bin}
-use Rattle.routines.proofs.Words.{un-lt, bin-lt, top, top-and, top-or, topBit, top-bit, wrap-right}
+use Rattle.arithmetic.proofs.Bounds.{unary-lt, binary-lt}
+use Rattle.routines.proofs.Words.{top, top-and, top-or, topBit, top-bit, wrap-right}
 
 -- two bits of three
 majority : {x y z : ℕ} → x < 2 → y < 2 → z < 2 → max (min z (max x y)) (min x y) ≡ (x + y + z) / 2
@@ -37,13 +37,13 @@ under n e c w z hw h hz = bits (top n) (top e) (top w) (omega arith) hz
 
 -- what the four comparisons share: from P, Q and s to the test d < e + c, where d and e are words, n is ~d and c is a carry
 abbrev compared : ℕ → ℕ → ℕ → ℕ
-compared p q s = topBit (bin Or (bin And s (bin Or q p)) (bin And q p))
+compared p q s = topBit (binaryOf Or (binaryOf And s (binaryOf Or q p)) (binaryOf And q p))
 
 compared-top : {p q s : ℕ} → p < 2 ^ 32 → q < 2 ^ 32 → s < 2 ^ 32 → compared p q s ≡ (top q + top p + top s) / 2
 compared-top hp hq hs =
-    top-bit (bin-lt Or (bin-lt And hs (bin-lt Or hq hp)) (bin-lt And hq hp))
-    ∙ top-or (bin-lt And hs (bin-lt Or hq hp)) (bin-lt And hq hp)
-    ∙ ap₂ max (top-and hs (bin-lt Or hq hp) ∙ ap₂ min refl (top-or hq hp)) (top-and hq hp)
+    top-bit (binary-lt Or (binary-lt And hs (binary-lt Or hq hp)) (binary-lt And hq hp))
+    ∙ top-or (binary-lt And hs (binary-lt Or hq hp)) (binary-lt And hq hp)
+    ∙ ap₂ max (top-and hs (binary-lt Or hq hp) ∙ ap₂ min refl (top-or hq hp)) (top-and hq hp)
     ∙ majority (omega arith) (omega arith) (omega arith)
 
 comparison : {p q s : ℕ} → p < 2 ^ 32 → q < 2 ^ 32 → s < 2 ^ 32 → (d e n c : ℕ) → e < 2 ^ 32 → n + d ≡ 2 ^ 32 - 1 → c < 2
@@ -89,10 +89,10 @@ signed-sums a b n m d e t u c k hm hn hd he hu hk = omega arith
 module _ {a b : ℕ} (h : a < 2 ^ 32) (k : b < 2 ^ 32) where
   -- P = A, Q = ~B, s = P + Q + 1 - c
   signed-order : {s : ℕ} (c j : ℕ) → j + c ≡ 1 → s ≡ wrap (j + (2 ^ 32 - 1 - b + a))
-      → compared a (un Not b) s ≡ oneIf (ltb (raised a) (raised b + c))
-  unfolding un
+      → compared a (unaryOf Not b) s ≡ oneIf (ltb (raised a) (raised b + c))
+  unfolding unaryOf
   signed-order {s} c j hj hs =
-      comparison h (un-lt Not b) (omega arith) (raised a) (raised b) (2 ^ 32 - 1 - raised a) c (omega arith) (omega arith) (omega arith)
+      comparison h (unary-lt Not b) (omega arith) (raised a) (raised b) (2 ^ 32 - 1 - raised a) c (omega arith) (omega arith) (omega arith)
       (omega arith) (omega arith)
       (top-complement s (wrap (2 ^ 32 - 1 - raised a + raised b + c))
       (rw hs (complement (j + (2 ^ 32 - 1 - b + a)) (2 ^ 32 - 1 - raised a + raised b + c) (1 + top a - top b)
@@ -101,28 +101,28 @@ module _ {a b : ℕ} (h : a < 2 ^ 32) (k : b < 2 ^ 32) where
 
   -- P = ~A, Q = B, s = ~(P + Q + c)
   unsigned-order : {s : ℕ} → s < 2 ^ 32 → (c : ℕ) → c < 2 → s + wrap (2 ^ 32 - 1 - a + b + c) ≡ 2 ^ 32 - 1
-      → compared (un Not a) b s ≡ oneIf (ltb a (b + c))
-  unfolding un
+      → compared (unaryOf Not a) b s ≡ oneIf (ltb a (b + c))
+  unfolding unaryOf
   unsigned-order {s} hs c hc e =
-      comparison (un-lt Not a) k hs a b (2 ^ 32 - 1 - a) c k (omega arith) hc refl refl (top-complement s _ e)
+      comparison (unary-lt Not a) k hs a b (2 ^ 32 - 1 - a) c k (omega arith) hc refl refl (top-complement s _ e)
 
-  pub less-than : compared a (un Not b) (bin Add 1 (bin Add (un Not b) a)) ≡ binaryOf LessThan a b
-  unfolding bin un
+  pub less-than : compared a (unaryOf Not b) (binaryOf Add 1 (binaryOf Add (unaryOf Not b) a)) ≡ binaryOf LessThan a b
+  unfolding binaryOf unaryOf
   less-than = signed-order 0 1 refl (wrap-right 1 (2 ^ 32 - 1 - b + a)) ∙ rw (add-zero (raised b), signed-less h k)
 
-  pub less-than-or-equal : compared a (un Not b) (bin Add (un Not b) a) ≡ binaryOf LessThanOrEqual a b
-  unfolding bin un
+  pub less-than-or-equal : compared a (unaryOf Not b) (binaryOf Add (unaryOf Not b) a) ≡ binaryOf LessThanOrEqual a b
+  unfolding binaryOf unaryOf
   less-than-or-equal =
       signed-order {s = wrap (2 ^ 32 - 1 - b + a)} 1 0 refl (omega arith)
       ∙ ap oneIf (less-or-same (raised a) (raised b) ∙ ap not (signed-less k h) ∙ not-less (signed a) (signed b))
 
-  pub u-less-than : compared (un Not a) b (un Not (bin Add b (un Not a))) ≡ binaryOf ULessThan a b
-  unfolding bin un
-  u-less-than = unsigned-order (un-lt Not (bin Add b (un Not a))) 0 (omega arith) (omega arith) ∙ rw (add-zero b)
+  pub u-less-than : compared (unaryOf Not a) b (unaryOf Not (binaryOf Add b (unaryOf Not a))) ≡ binaryOf ULessThan a b
+  unfolding binaryOf unaryOf
+  u-less-than = unsigned-order (unary-lt Not (binaryOf Add b (unaryOf Not a))) 0 (omega arith) (omega arith) ∙ rw (add-zero b)
 
-  pub u-less-than-or-equal : compared (un Not a) b (bin Add (un Not b) a) ≡ binaryOf ULessThanOrEqual a b
-  unfolding bin un
+  pub u-less-than-or-equal : compared (unaryOf Not a) b (binaryOf Add (unaryOf Not b) a) ≡ binaryOf ULessThanOrEqual a b
+  unfolding binaryOf unaryOf
   u-less-than-or-equal =
-      unsigned-order (bin-lt Add (un-lt Not b) h) 1 (omega arith)
+      unsigned-order (binary-lt Add (unary-lt Not b) h) 1 (omega arith)
       (complement (2 ^ 32 - 1 - b + a) (2 ^ 32 - 1 - a + b + 1) 1 (omega arith))
       ∙ ap oneIf (less-or-same a b ∙ not-less (pos a) (pos b))

@@ -1,12 +1,8 @@
--- What holds at each entry of a list.
+-- What is proved of each entry of a list.
 use mathlib.Core.Path.{_≡_}
-use mathlib.Core.Logic.{_⊎_, inl, inr}
+use mathlib.Core.Logic.{inl, inr}
 use mathlib.Core.List.{List, [], _∷_, map}
-
--- x is an entry
-abbrev pub In : {A : Type 0} → A → List A → Type 0
-In x [] = ⊥
-In x (y ∷ ys) = (x ≡ y) ⊎ In x ys
+use Rattle.memory.proofs.Tests.{In}
 
 infixr 5 _&_
 -- P of each entry
@@ -14,10 +10,10 @@ pub data Each {A : Type 0} (P : A → Type 0) : List A → Type 0 where
   end : Each P []
   _&_ : {x : A} {xs : List A} → P x → Each P xs → Each P (x ∷ xs)
 
-pub at-entry : {A : Type 0} {P : A → Type 0} {x : A} {xs : List A} → Each P xs → In x xs → P x
-at-entry end i = absurd i
-at-entry (p & ps) (inl e) = rw e p
-at-entry (p & ps) (inr i) = at-entry ps i
+pub law-at : {A : Type 0} {P : A → Type 0} {x : A} {xs : List A} → Each P xs → In x xs → P x
+law-at end i = absurd i
+law-at (p & ps) (inl e) = rw e p
+law-at (p & ps) (inr i) = law-at ps i
 
 -- two functions that agree on a whole list, by one computation
 pub same-at : {A B : Type 0} (f g : A → B) {x : A} (xs : List A) → map f xs ≡ map g xs → In x xs → f x ≡ g x

@@ -6,12 +6,9 @@ use lib.ListN.{length, getD, set}
 use lib.Dec.{ltb}
 use Rattle.arithmetic.specs.Words.{wrap}
 use Rattle.arithmetic.specs.Operations.{unaryOf, binaryOf}
-use Rattle.arithmetic.specs.declared.UnOp.{UnOp}
-use Rattle.arithmetic.specs.declared.BinOp.{BinOp}
 use Rattle.arithmetic.specs.declared.BinOp.the-variants.{Add}
 use Rattle.machine.specs.Instructions.{Instr, Instr.IM, Instr.STORESP, Instr.LOADSP, Instr.EMULATE, Instr.ADDSP, Instr.PUSHSP, Instr.POPSP, Instr.POPPC, Instr.NOP, Instr.BREAK, Instr.ILLEGAL, Instr.PUSHSPADD, Instr.CALL, Instr.CALLPCREL, Instr.POPPCREL, Instr.PUSHPC, Instr.NEQBRANCH, Instr.EQBRANCH, Instr.unary, Instr.binary, Instr.division, Instr.load, Instr.store}
 use Rattle.machine.specs.Table.{extended}
-use Rattle.routines.specs.Constants.{freeWords}
 use Rattle.routines.specs.Page.{Short}
 
 -- the routine of a short instruction
@@ -21,13 +18,6 @@ code o = map (λ l. l .1) (o .lines)
 -- where the routine of a byte begins
 abbrev pub vector : ℕ → ℕ
 vector b = 32 * (b - 32)
-
--- the operations, shut: operands stay as they are while place and code compute
-unfoldable pub un : UnOp → ℕ → ℕ
-un op a = unaryOf op a
-
-unfoldable pub bin : BinOp → ℕ → ℕ → ℕ
-bin op a b = binaryOf op a b
 
 -- the byte address of word p of a window that begins at word base
 unfoldable pub address : ℕ → ℕ → ℕ
@@ -55,17 +45,17 @@ andThen stuck k = stuck
 
 module _ (base : ℕ) where
   abbrev pub instruction : Instr → ℕ → Bool → List ℕ → Frame
-  instruction (IM v) p true ws = inside p ws (running p true (set ws p (wrap (getD ws p 0 * 128 + v))))
-  instruction (IM v) p false ws = check (ltb v 128) (pushed p true ws (extended v))
+  instruction (IM v) p f ws =
+      cond f (inside p ws (running p true (set ws p (wrap (getD ws p 0 * 128 + v))))) (check (ltb v 128) (pushed p true ws (extended v)))
   instruction (STORESP n) p f ws = inside (p + n) ws (running (p + 1) false (set ws (p + n) (getD ws p 0)))
   instruction (LOADSP n) p f ws = inside (p + n) ws (pushed p false ws (getD ws (p + n) 0))
-  instruction (ADDSP n) p f ws = inside (p + n) ws (running p false (set ws p (bin Add (getD ws p 0) (getD ws (p + n) 0))))
+  instruction (ADDSP n) p f ws = inside (p + n) ws (running p false (set ws p (binaryOf Add (getD ws p 0) (getD ws (p + n) 0))))
   instruction PUSHSP p f ws = pushed p false ws (address base p)
   instruction POPPC p f ws = inside p ws (left (getD ws p 0) (p + 1) ws)
   instruction NOP p f ws = running p false ws
-  instruction (unary op) p f ws = inside p ws (running p false (set ws p (un op (getD ws p 0))))
+  instruction (unary op) p f ws = inside p ws (running p false (set ws p (unaryOf op (getD ws p 0))))
   instruction (binary op) p f ws =
-      inside (p + 1) ws (running (p + 1) false (set ws (p + 1) (bin op (getD ws p 0) (getD ws (p + 1) 0))))
+      inside (p + 1) ws (running (p + 1) false (set ws (p + 1) (binaryOf op (getD ws p 0) (getD ws (p + 1) 0))))
   instruction (EMULATE k) p f ws = stuck
   instruction POPSP p f ws = stuck
   instruction BREAK p f ws = stuck
@@ -91,9 +81,13 @@ abbrev pub words : ℕ → (ℕ → ℕ) → List ℕ
 words zero f = []
 words (suc n) f = f 0 ∷ words n (λ i. f (suc i))
 
--- a routine entered by EMULATE: f has the words from freeWords below the short one's sp on, the return address the last of them
+-- the words below sp that a routine uses at most, the return address among them
+abbrev pub depth : ℕ
+depth = 5
+
+-- a routine entered by EMULATE: f has the words from depth below the short one's sp on, the return address the last of them
 abbrev pub entered : ℕ → Short → (ℕ → ℕ) → Frame
-entered base o f = through base (code o) (freeWords - 1) false (words (freeWords + o .operands) f)
+entered base o f = through base (code o) (depth - 1) false (words (depth + o .operands) f)
 
 abbrev pub goal : Frame → ℕ
 goal (running p f ws) = 0

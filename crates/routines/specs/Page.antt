@@ -29,7 +29,8 @@ following c a b = wrap (c + 1)
 
 -- pops two, pushes one
 abbrev twoToOne : ℕ → BinOp → List Line → ℕ → Short
-twoToOne b op l n = record { byte = b; operands = 2; popped = 1; target = following; value = λ c s x y. binaryOf op x y; lines = l; bound = n }
+twoToOne b op l n =
+    record { byte = b; operands = 2; popped = 1; target = following; value = λ c s x y. binaryOf op x y; lines = l; bound = n }
 
 -- pops two
 abbrev twoToNone : ℕ → (ℕ → ℕ → ℕ → ℕ) → List Line → ℕ → Short

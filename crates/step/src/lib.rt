@@ -6,6 +6,7 @@ use machine::State;
 ghost use mathlib.Core.Path.{_≡_};
 ghost use Prim.Native.Nat.{_<_, _≤_};
 ghost use Rattle.machine.specs.declared.Core.the-variants.{Narrow};
+ghost use Rattle.machine.specs.State.{place};
 ghost use Rattle.machine.specs.Table.{effectOf, stepOf};
 ghost use Rattle.machine.specs.Instructions.{inverted, decode};
 ghost use Rattle.machine.specs.Inner.{Ready, Carried};
@@ -33,12 +34,12 @@ fn offset_or_emulate(image: &mut [u8], s: State, byte: u8) -> Answer
     ensures { λ r. ⌜ Carried (now (image .entry)) s (effectOf (now (image .entry)) s (decode Narrow byte)) r (now (image .exit)) ⌝ }
 {
     if 96 <= byte {
-        return core_instructions::loadsp(image, s, inverted(byte));
+        return stack_instructions::loadsp(image, s, inverted(byte));
     }
     if 64 <= byte {
-        return core_instructions::storesp(image, s, inverted(byte));
+        return stack_instructions::storesp(image, s, inverted(byte));
     }
-    core_instructions::emulate(image, s, byte - 32)
+    jump_instructions::emulate(image, s, byte - 32)
 }
 
 // The instruction that the byte is. IM comes first for speed.
@@ -47,17 +48,17 @@ fn carry_out(core: Core, image: &mut [u8], s: State, byte: u8) -> Answer
     ensures { λ r. ⌜ Carried (now (image .entry)) s (effectOf (now (image .entry)) s (decode core byte)) r (now (image .exit)) ⌝ }
 {
     if 128 <= byte {
-        return core_instructions::im(image, s, byte);
+        return stack_instructions::im(image, s, byte);
     }
     if byte < dispatched(core) {
-        return dispatch::wide(image, s, byte);
+        return dispatch::below_64(image, s, byte);
     }
     offset_or_emulate(image, s, byte)
 }
 
 pub fn step(core: Core, image: &mut [u8], s: State) -> Answer
     requires { ⌜ Ready (now image) s ⌝ }
-    ensures { λ r. ⌜ Carried (now (image .entry)) s (stepOf core (now (image .entry)) s) r (now (image .exit)) ⌝ }
+    ensures { λ r. ⌜ Carried (now (image .entry)) s (stepOf core (place (now (image .entry)) s)) r (now (image .exit)) ⌝ }
 {
     let pc = s.pc.0 as usize;
     if image.len() <= pc {

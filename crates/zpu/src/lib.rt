@@ -8,19 +8,8 @@ ghost use mathlib.Core.Path.{_≡_};
 ghost use Prim.Native.Nat.{_+_, _^_, _<_};
 ghost use Rattle.machine.specs.Outcomes.{number};
 ghost use Rattle.machine.specs.Inner.{Ready, finishOf};
-ghost use Rattle.machine.specs.Run.{place, goodLength, runFrom, run, told};
-
-fn good_length(l: usize) -> bool
-    ensures { λ r. ⌜ r ≡ goodLength l ⌝ }
-{
-    if l == 0 {
-        return false;
-    }
-    if 65536 < l {
-        return false;
-    }
-    l % 4 == 0
-}
+ghost use Rattle.machine.specs.State.{place};
+ghost use Rattle.machine.specs.Run.{runFrom, handedBack, Runs};
 
 // How a run ends by an answer, n steps before it.
 fn ended_by(answer: Answer, n: u32) -> Finish
@@ -47,9 +36,9 @@ fn ended_by(answer: Answer, n: u32) -> Finish
 }
 
 // The steps in order, counted, to the first stop.
-fn steps(core: Core, image: &mut [u8], start: State, limit: u32) -> Finish
+fn run_from(core: Core, image: &mut [u8], start: State, limit: u32) -> Finish
     requires { ⌜ Ready (now image) start ⌝ }
-    ensures { λ r. ⌜ told r (now (image .exit)) ≡ runFrom core limit 0 (place (now (image .entry)) start) ⌝ }
+    ensures { λ r. ⌜ handedBack r (now (image .exit)) ≡ runFrom core limit 0 (place (now (image .entry)) start) ⌝ }
 {
     let mut s = start;
     let mut n: u32 = 0;
@@ -69,19 +58,18 @@ fn steps(core: Core, image: &mut [u8], start: State, limit: u32) -> Finish
 }
 
 pub fn run(core: Core, image: &mut [u8], start: State, limit: u32) -> Finish
-    ensures { λ r. ⌜ told r (now (image .exit)) ≡ run core limit (place (now (image .entry)) start) ⌝ }
+    ensures { λ r. ⌜ Runs core limit (place (now (image .entry)) start) r (now (image .exit)) ⌝ }
 {
-    let length = image.len();
-    if good_length(length) {
+    if memory::good_length(image.len()) {
         let sp = start.sp.0;
-        if length / 4 < sp {
+        if memory::words(image).0 < sp {
             return Finish {
                 outcome: Outcome::Start,
                 steps: 0,
                 state: start,
             };
         }
-        return steps(core, image, start, limit);
+        return run_from(core, image, start, limit);
     }
     Finish {
         outcome: Outcome::Image,
@@ -91,7 +79,7 @@ pub fn run(core: Core, image: &mut [u8], start: State, limit: u32) -> Finish
 }
 
 pub fn step(core: Core, image: &mut [u8], start: State) -> Finish
-    ensures { λ r. ⌜ told r (now (image .exit)) ≡ run core 1 (place (now (image .entry)) start) ⌝ }
+    ensures { λ r. ⌜ Runs core 1 (place (now (image .entry)) start) r (now (image .exit)) ⌝ }
 {
     run(core, image, start, 1)
 }

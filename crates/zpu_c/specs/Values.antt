@@ -7,7 +7,8 @@ use lib.Dec.{eqb}
 use Rattle.machine.specs.declared.Core.{Core}
 use Rattle.machine.specs.declared.Core.the-variants.{Narrow, Wide}
 use Rattle.machine.specs.declared.State.{State}
-use Rattle.machine.specs.Run.{Ran, place}
+use Rattle.machine.specs.State.{state}
+use Rattle.machine.specs.Run.{Ran}
 use Rattle.zpu_c.specs.declared.CState.{CState}
 use Rattle.zpu_c.specs.declared.CEnd.{CEnd}
 
@@ -17,7 +18,7 @@ coreOf n = cond (eqb n 1) Wide Narrow
 
 -- a flag other than 0 is set
 abbrev pub stateOf : CState → State
-stateOf s = record { pc = record { 0 = s .pc }; sp = record { 0 = s .sp }; flag = not (eqb (s .flag) 0) }
+stateOf s = state (s .pc) (s .sp) (not (eqb (s .flag) 0))
 
 -- the flag handed back is 0 or 1
 abbrev pub flagOf : State → ℕ

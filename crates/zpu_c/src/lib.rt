@@ -6,7 +6,8 @@ use memory::WordIndex;
 use microcode::Laid;
 ghost use mathlib.Core.Path.{_≡_};
 ghost use Prim.Native.Nat.{_^_, _<_};
-ghost use Rattle.machine.specs.Run.{place, run};
+ghost use Rattle.machine.specs.State.{place};
+ghost use Rattle.machine.specs.Run.{run};
 ghost use Rattle.zpu_c.specs.Values.{coreOf, stateOf, flagOf, Tells};
 ghost use Rattle.microcode.specs.Laying.{Lays};
 
@@ -77,7 +78,7 @@ pub extern "C" fn zpu_page(image: &mut [u8]) -> u32
 {
     let laid = microcode::lay(image);
     match laid {
-        Laid::Done => 0,
+        Laid::InPlace => 0,
         Laid::TooShort => 2,
     }
 }

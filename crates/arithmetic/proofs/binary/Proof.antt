@@ -1,98 +1,29 @@
 use native.Mathlib.Omega.{arith}
+use Rattle.arithmetic.specs.Operations.{binaryOf}
 use borrow.Author.Needs.{needs}
 use Rattle.arithmetic.proofs.binary.Statement.{statement}
 use Rattle.arithmetic.proofs.binary.Tie as tie
 
-returns : tie.Need-returns
-returns c = rw (c .before .enum-told .given .1) (c .wrapping-add-u32 .ensures)
-
-returns-2 : tie.Need-returns-2
-returns-2 c = rw (c .enum-told2 .given .1)
-
-returns-3 : tie.Need-returns-3
-returns-3 c = rw (c .enum-told3 .given .1)
-
-returns-4 : tie.Need-returns-4
-returns-4 c = rw (c .before .before .enum-told4 .given .1, c .one-if .ensures, c .before .less .ensures)
-
-returns-5 : tie.Need-returns-5
-returns-5 c = rw (c .before .before .enum-told5 .given .1, c .one-if2 .ensures, c .before .less-or-equal .ensures)
-
-returns-6 : tie.Need-returns-6
-returns-6 c = rw (c .before .enum-told6 .given .1) (c .one-if3 .ensures)
-
-returns-7 : tie.Need-returns-7
-returns-7 c = rw (c .before .enum-told7 .given .1) (c .one-if4 .ensures)
-
-returns-8 : tie.Need-returns-8
-returns-8 c = rw (c .before .enum-told8 .given .1) (c .one-if5 .ensures)
-
-returns-9 : tie.Need-returns-9
-returns-9 c = rw (c .before .enum-told9 .given .1) (c .one-if6 .ensures)
-
-returns-10 : tie.Need-returns-10
-returns-10 c = rw (c .before .enum-told10 .given .1) (omega arith)
-
-returns-11 : tie.Need-returns-11
-returns-11 c = rw (c .enum-told11 .given .1)
-
-returns-12 : tie.Need-returns-12
-returns-12 c = rw (c .before .enum-told12 .given .1) (c .mult .ensures)
-
-returns-13 : tie.Need-returns-13
-returns-13 c = rw (c .before .enum-told13 .given .1) (c .shift-right .ensures)
-
-returns-14 : tie.Need-returns-14
-returns-14 c = rw (c .before .enum-told14 .given .1) (c .shift-left .ensures)
-
-returns-15 : tie.Need-returns-15
-returns-15 c = rw (c .before .enum-told15 .given .1) (c .shift-signed .ensures)
-
 pub binary-spec : {M : Type 1} → statement M
+unfolding binaryOf
 binary-spec =
     tie.close
-    (tie.spec
-    (λ c. search needs)
-    (λ c κs. search needs)
-    (λ c. search needs)
-    (λ c. search needs)
-    (λ c. search needs)
-    (λ c κs. search needs)
-    (λ c κs. search needs)
-    (λ c. search needs)
-    (λ c κs. search needs)
-    (λ c κs. search needs)
-    (λ c. search needs)
-    (λ c κs. search needs)
-    (λ c. search needs)
-    (λ c κs. search needs)
-    (λ c. search needs)
-    (λ c κs. search needs)
-    (λ c. search needs)
-    (λ c κs. search needs)
-    (λ c. search needs)
-    (λ c κs. search needs)
-    (λ c. search needs)
-    (λ c. search needs)
-    (λ c κs. search needs)
-    (λ c. search needs)
-    (λ c κs. search needs)
-    (λ c. search needs)
-    (λ c κs. search needs)
-    (λ c. search needs)
-    (λ c κs. search needs)
-    returns
-    returns-2
-    returns-3
-    returns-4
-    returns-5
-    returns-6
-    returns-7
-    returns-8
-    returns-9
-    returns-10
-    returns-11
-    returns-12
-    returns-13
-    returns-14
-    returns-15)
+    (tie.spec (λ c. search needs) (λ c κs. search needs) (λ c. search needs) (λ c. search needs) (λ c. search needs)
+    (λ c κs. search needs) (λ c κs. search needs) (λ c. search needs) (λ c κs. search needs) (λ c κs. search needs)
+    (λ c. search needs) (λ c κs. search needs) (λ c. search needs) (λ c κs. search needs) (λ c. search needs)
+    (λ c κs. search needs) (λ c. search needs) (λ c κs. search needs) (λ c. search needs) (λ c κs. search needs)
+    (λ c. search needs) (λ c. search needs) (λ c κs. search needs) (λ c. search needs) (λ c κs. search needs)
+    (λ c. search needs) (λ c κs. search needs) (λ c. search needs) (λ c κs. search needs)
+    (λ c. rw (c .before .enum-told .given .1) (c .wrapping-add-u32 .ensures)) (λ c. rw (c .enum-told2 .given .1))
+    (λ c. rw (c .enum-told3 .given .1))
+    (λ c. rw (c .before .before .enum-told4 .given .1, c .one-if .ensures, c .before .less .ensures))
+    (λ c. rw (c .before .before .enum-told5 .given .1, c .one-if2 .ensures, c .before .less-or-equal .ensures))
+    (λ c. rw (c .before .enum-told6 .given .1) (c .one-if3 .ensures))
+    (λ c. rw (c .before .enum-told7 .given .1) (c .one-if4 .ensures))
+    (λ c. rw (c .before .enum-told8 .given .1) (c .one-if5 .ensures))
+    (λ c. rw (c .before .enum-told9 .given .1) (c .one-if6 .ensures))
+    (λ c. rw (c .before .enum-told10 .given .1) (omega arith)) (λ c. rw (c .enum-told11 .given .1))
+    (λ c. rw (c .before .enum-told12 .given .1) (c .mult .ensures))
+    (λ c. rw (c .before .enum-told13 .given .1) (c .shift-right .ensures))
+    (λ c. rw (c .before .enum-told14 .given .1) (c .shift-left .ensures))
+    (λ c. rw (c .before .enum-told15 .given .1) (c .shift-signed .ensures)))

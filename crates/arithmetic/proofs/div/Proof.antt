@@ -12,16 +12,17 @@ returns : tie.Need-returns
 returns c =
     let n = c .before .before .before in
     let x = n .before .before .args in
-    rw (c .signed-as .ensures, c .before .before .magnitude .ensures, c .before .magnitude2 .ensures, n .before .is-negative .ensures, n .is-negative2 .ensures, quot-by-sign (signed (x .b)) (signed (x .a)))
+    rw (
+      c .signed-as .ensures,
+      c .before .before .magnitude .ensures,
+      c .before .magnitude2 .ensures,
+      n .before .is-negative .ensures,
+      n .is-negative2 .ensures,
+      quot-by-sign (signed (x .b)) (signed (x .a)),
+    )
 
 pub div-spec : {M : Type 1} → statement M
 div-spec =
     tie.close
-    (tie.spec
-    (λ c κs. search needs)
-    (λ c κs. search needs)
-    (λ c κs. search needs)
-    (λ c κs. search needs)
-    div-signed-as
-    (λ c κs. search needs)
-    returns)
+    (tie.spec (λ c κs. search needs) (λ c κs. search needs) (λ c κs. search needs) (λ c κs. search needs) div-signed-as
+    (λ c κs. search needs) returns)

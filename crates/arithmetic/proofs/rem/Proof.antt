@@ -12,15 +12,16 @@ returns : tie.Need-returns
 returns c =
     let n = c .before .before .before in
     let x = n .before .args in
-    rw (c .signed-as .ensures, c .before .before .magnitude .ensures, c .before .magnitude2 .ensures, n .is-negative .ensures, rem-by-sign (signed (x .b)) (signed (x .a)))
+    rw (
+      c .signed-as .ensures,
+      c .before .before .magnitude .ensures,
+      c .before .magnitude2 .ensures,
+      n .is-negative .ensures,
+      rem-by-sign (signed (x .b)) (signed (x .a)),
+    )
 
 pub rem-spec : {M : Type 1} → statement M
 rem-spec =
     tie.close
-    (tie.spec
-    (λ c κs. search needs)
-    (λ c κs. search needs)
-    (λ c κs. search needs)
-    rem-signed-as
-    (λ c κs. search needs)
+    (tie.spec (λ c κs. search needs) (λ c κs. search needs) (λ c κs. search needs) rem-signed-as (λ c κs. search needs)
     returns)

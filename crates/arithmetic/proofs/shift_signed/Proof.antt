@@ -9,13 +9,23 @@ returns : tie.Need-returns
 returns c =
     let n = c .before .before in
     let x = n .before .args in
-    rw (shift-is (sign (x .b)) (search needs) (shiftFactor (x .a)), ← n .is-negative .ensures, c .before .if1 .taken, c .shift-right .ensures)
+    rw (
+      shift-is (sign (x .b)) (search needs) (shiftFactor (x .a)),
+      ← n .is-negative .ensures,
+      c .before .if1 .taken,
+      c .shift-right .ensures,
+    )
 
 returns-2 : tie.Need-returns-2
 returns-2 c =
     let n = c .before .before in
     let x = n .before .args in
-    rw (shift-is (sign (x .b)) (search needs) (shiftFactor (x .a)), ← n .is-negative .ensures, c .before .if1 .left, c .shift-right2 .ensures)
+    rw (
+      shift-is (sign (x .b)) (search needs) (shiftFactor (x .a)),
+      ← n .is-negative .ensures,
+      c .before .if1 .left,
+      c .shift-right2 .ensures,
+    )
 
 pub shift-signed-spec : {M : Type 1} → statement M
 shift-signed-spec =

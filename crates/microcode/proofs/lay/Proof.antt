@@ -15,7 +15,8 @@ returns c = simp (lt-ltb (length (now (c .before .before .args .image))) pageLen
 returns-2 : tie.Need-returns-2
 unfolding page
 returns-2 c =
-    simp (le-ltb (length (now (c .before .before .before .before .before .before .before .args .image))) pageLength (omega arith)) (refl, c .before .before .copy .ensures .1)
+    simp (le-ltb (length (now (c .before .before .before .before .before .before .before .args .image))) pageLength
+    (omega arith)) (refl, c .before .before .copy .ensures .1)
 
 pub lay-spec : {M : Type 1} → statement M
 lay-spec = tie.close (tie.spec returns (λ c. search needs) (λ c κs. search needs) (λ c. search needs) returns-2)

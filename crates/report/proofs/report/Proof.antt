@@ -2,27 +2,28 @@ use Prim.Native.Nat.{ℕ}
 use mathlib.Core.Path.{_≡_, sym}
 use mathlib.Core.Bool.{true, false}
 use native.Mathlib.Omega.{arith}
+use borrow.Author.Needs.{needs}
 use lib.ListN.{length, take, replicate}
 use lib.Seq.{length-take-le}
-use Rattle.report.specs.Printed.{longest, runs, refusal, lines, printed}
-use Rattle.report.proofs.Sessions.{sizes}
-use Rattle.report.proofs.Texts.{alone}
-use borrow.Author.Needs.{needs}
+use Rattle.session.specs.Sessions.{longest, takes}
+use Rattle.session.proofs.Sessions.{taken}
+use Rattle.text.proofs.Texts.{alone}
+use Rattle.report.specs.Printed.{printed}
 use Rattle.report.proofs.report.Statement.{statement}
 use Rattle.report.proofs.report.Tie as tie
 
 -- the part of the space that is lent
-lent : (l : ℕ) → runs l ≡ true → length {A = ℕ} (take l (replicate longest 0)) ≡ l
-lent l h = length-take-le l (replicate longest 0) (sizes l h .1)
+lent : (l : ℕ) → takes l ≡ true → length {A = ℕ} (take l (replicate longest 0)) ≡ l
+lent l h = length-take-le l (replicate longest 0) (taken l h .not-over)
 
 array-borrow-prefix-wide : tie.Need-array-borrow-prefix-wide
-array-borrow-prefix-wide c = sizes (length (c .before .before .before .args .input .now)) (cc) .1
+array-borrow-prefix-wide c = taken (length (c .before .before .before .args .input .now)) (cc) .not-over
 
 slice-aggregate-sessions : tie.Need-slice-aggregate-sessions
 slice-aggregate-sessions c = sym (lent (length (c .before .before .before .before .args .input .now)) (cc))
 
 array-borrow-prefix-narrow : tie.Need-array-borrow-prefix-narrow
-array-borrow-prefix-narrow c = sizes (length (c .before .before .before .before .args .input .now)) (cc) .1
+array-borrow-prefix-narrow c = taken (length (c .before .before .before .before .args .input .now)) (cc) .not-over
 
 slice-aggregate-sessions-2 : tie.Need-slice-aggregate-sessions-2
 slice-aggregate-sessions-2 c = sym (lent (length (c .before .before .before .before .before .args .input .now)) (cc))
@@ -30,35 +31,27 @@ slice-aggregate-sessions-2 c = sym (lent (length (c .before .before .before .bef
 sessions-requires : tie.Need-sessions-requires
 sessions-requires c κs =
     let l = length (c .before .before .before .before .before .before .args .input .now) in
-    let h : runs l ≡ true = cc in
+    let h : takes l ≡ true = cc in
     (h, (lent l h, (lent l h, omega arith)))
 
 returns : tie.Need-returns
 unfolding printed
 returns c =
-    let a = c .before .before .before .before .before .before .before .before .before .args in
-    let p = c .before .before .sessions .ensures in
-    let h : runs (length (a .input .now)) ≡ true = cc in
-    rw h (alone (lines (a .input .now)) (a .out .now) (p .0) (omega (arith, p .0 .0, p .1)))
+    let r = c .before .before in
+    let a = r .before .before .before .before .before .before .before .args in
+    let (p, fits) = r .sessions .ensures in
+    let h : takes (length (a .input .now)) ≡ true = cc in
+    rw h (alone p (omega arith))
 
 returns-2 : tie.Need-returns-2
 unfolding printed
 returns-2 c =
     let a = c .before .before .before .before .before .before .args in
-    let h : runs (length (a .input .now)) ≡ false = cc in
-    rw h (alone refusal (a .out .now) (c .letters .ensures) (omega arith))
+    let h : takes (length (a .input .now)) ≡ false = cc in
+    rw h (alone (c .letters .ensures) (omega arith))
 
 pub report-spec : {M : Type 1} → statement M
 report-spec =
     tie.close
-    (tie.spec
-    (λ c κs. search needs)
-    array-borrow-prefix-wide
-    slice-aggregate-sessions
-    array-borrow-prefix-narrow
-    slice-aggregate-sessions-2
-    sessions-requires
-    returns
-    (λ c. search needs)
-    (λ c κs. search needs)
-    returns-2)
+    (tie.spec (λ c κs. search needs) array-borrow-prefix-wide slice-aggregate-sessions array-borrow-prefix-narrow
+    slice-aggregate-sessions-2 sessions-requires returns (λ c. search needs) (λ c κs. search needs) returns-2)

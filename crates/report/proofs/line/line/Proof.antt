@@ -1,34 +1,26 @@
 use native.Mathlib.Omega.{arith}
-use Rattle.machine.specs.Run.{told}
-use Rattle.report.proofs.Lines.{line-puts}
 use borrow.Author.Needs.{needs}
+use Rattle.text.proofs.Texts.{puts-then}
+use Rattle.report.specs.Lines.{line}
 use Rattle.report.proofs.line.line.Statement.{statement}
 use Rattle.report.proofs.line.line.Tie as tie
 
 returns : tie.Need-returns
+unfolding line
 returns c =
-    let d = c .before .before in
-    let e = d .before .before .before .before in
-    let f = e .before .before .before .before in
-    let g = f .before .before .before .before in
-    let h = g .before .before .before .before in
-    let k = h .before .before .before .before .before in
-    let a = k .before .before .before .before .args in
-    let p =
-    line-puts (a .core) (told (a .end) (a .image .now)) (a .at) (a .out .now) (k .name .ensures .0) (rw (h .before .number .ensures) at (h .field .ensures .0)) (g .field2 .ensures .0) (f .field3 .ensures .0) (e .top .ensures .0) (d .byte .ensures) in
-    (p, omega (arith, k .name .ensures .1, h .field .ensures .1, g .field2 .ensures .1, f .field3 .ensures .1, e .top .ensures .1, d .byte .ensures .0))
+    let feed = c .before .before in
+    let top = feed .before .before .before .before in
+    let sp = top .before .before .before .before in
+    let counter = sp .before .before .before .before in
+    let outcome = counter .before .before .before .before in
+    let name = outcome .before .before .before .before .before in
+    let p = puts-then (name .name .ensures .0) (rw (outcome .before .number .ensures) at (outcome .field .ensures .0)) in
+    let q = puts-then (puts-then p (counter .field2 .ensures .0)) (sp .field3 .ensures .0) in
+    let r = puts-then (puts-then q (top .top .ensures .0)) (feed .byte .ensures) in
+    (r, omega (arith, name .name .ensures, outcome .field .ensures, counter .field2 .ensures, sp .field3 .ensures, top .top .ensures))
 
 pub line-spec : {M : Type 1} → statement M
 line-spec =
     tie.close
-    (tie.spec
-    (λ c κs. search needs)
-    (λ c κs. search needs)
-    (λ c κs. search needs)
-    (λ c κs. search needs)
-    (λ c. search needs)
-    (λ c κs. search needs)
-    (λ c κs. search needs)
-    (λ c κs. search needs)
-    (λ c. search needs)
-    returns)
+    (tie.spec (λ c κs. search needs) (λ c κs. search needs) (λ c κs. search needs) (λ c κs. search needs)
+    (λ c. search needs) (λ c κs. search needs) (λ c κs. search needs) (λ c κs. search needs) (λ c. search needs) returns)

@@ -4,22 +4,17 @@ use Rattle.report.proofs.line.name.Statement.{statement}
 use Rattle.report.proofs.line.name.Tie as tie
 
 returns : tie.Need-returns
-returns c = rw (c .before .before .before .before .before .enum-told .given .1) (c .before .before .letters .ensures, omega (arith, c .before .before .letters .ensures .0))
+returns c =
+    let put = c .before .before in
+    rw (put .before .before .before .enum-told .given .1) (put .letters .ensures, omega arith)
 
 returns-2 : tie.Need-returns-2
-returns-2 c = rw (c .before .before .before .before .before .enum-told2 .given .1) (c .before .before .letters2 .ensures, omega (arith, c .before .before .letters2 .ensures .0))
+returns-2 c =
+    let put = c .before .before in
+    rw (put .before .before .before .enum-told2 .given .1) (put .letters2 .ensures, omega arith)
 
 pub name-spec : {M : Type 1} → statement M
 name-spec =
     tie.close
-    (tie.spec
-    (λ c. search needs)
-    (λ c. search needs)
-    (λ c κs. search needs)
-    (λ c. search needs)
-    (λ c. search needs)
-    (λ c κs. search needs)
-    (λ c. search needs)
-    returns
-    (λ c. search needs)
-    returns-2)
+    (tie.spec (λ c. search needs) (λ c. search needs) (λ c κs. search needs) (λ c. search needs) (λ c. search needs)
+    (λ c κs. search needs) (λ c. search needs) returns (λ c. search needs) returns-2)

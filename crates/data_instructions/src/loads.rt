@@ -1,0 +1,41 @@
+// LOAD, LOADH and LOADB: the address is replaced by what stands there.
+use machine::Answer;
+use machine::Outcome;
+use machine::State;
+use machine::Width;
+use memory::ByteAddr;
+ghost use mathlib.Core.Path.{_≡_};
+ghost use Prim.Native.Nat.{_%_, _<_, _≤_};
+ghost use lib.ListN.{length};
+ghost use Rattle.memory.specs.Memory.{getBytes};
+ghost use Rattle.machine.specs.Table.{size, aligned, effectOf};
+ghost use Rattle.machine.specs.Instructions.{Instr.load};
+ghost use Rattle.machine.specs.Inner.{Ready, Carried};
+
+fn read(image: &[u8], w: Width, a: ByteAddr) -> u32
+    requires { ⌜ (a .0 < length (now image)) × (length (now image) ≤ 65536) × (length (now image) % 4 ≡ 0) ⌝ }
+    ensures { λ r. ⌜ r ≡ getBytes (now (image .entry)) (aligned w (a .0)) (size w) ⌝ }
+{
+    match w {
+        Width::Word => memory::read_word(image, a.word()),
+        Width::Half => memory::read_half(image, ByteAddr(2 * (a.0 / 2))),
+        Width::Byte => memory::read_byte(image, a),
+    }
+}
+
+pub fn load(image: &mut [u8], s: State, w: Width) -> Answer
+    requires { ⌜ Ready (now image) s ⌝ }
+    ensures { λ r. ⌜ Carried (now (image .entry)) s (effectOf (now (image .entry)) s (load w)) r (now (image .exit)) ⌝ }
+{
+    let sp = s.sp.0;
+    if memory::words(image).0 <= sp {
+        return Answer::Refused(s, Outcome::Stack);
+    }
+    let a = memory::read_word(image, s.sp);
+    if image.len() <= a as usize {
+        return Answer::Refused(s, Outcome::Address);
+    }
+    let v = read(image, w, ByteAddr(a));
+    memory::write_word(image, s.sp, v);
+    Answer::Done(s.next(s.sp))
+}

@@ -1,0 +1,63 @@
+use Rattle.dispatch.specs.Families.{families}
+use Rattle.dispatch.proofs.Rest.{none}
+use Rattle.machine.specs.Instructions.{decode, below32, below64}
+use borrow.Author.Needs.{needs}
+use Rattle.dispatch.proofs.below_64.Statement.{statement}
+use Rattle.dispatch.proofs.below_64.Tie as tie
+
+pub below-64-spec : {M : Type 1} → statement M
+unfolding decode below32 below64
+below-64-spec =
+    tie.close
+    (tie.spec (λ c κs. search needs) (λ c κs. search needs) (λ c κs. search needs) (λ c κs. search needs)
+    (λ c κs. search needs) (λ c κs. search needs) (λ c κs. search needs) (λ c κs. search needs) (λ c κs. search needs)
+    (λ c κs. search needs) (λ c κs. search needs) (λ c κs. search needs) (λ c κs. search needs) (λ c κs. search needs)
+    (λ c κs. search needs) (λ c κs. search needs) (λ c κs. search needs) (λ c κs. search needs) (λ c κs. search needs)
+    (λ c κs. search needs) (λ c κs. search needs) (λ c κs. search needs) (λ c κs. search needs) (λ c κs. search needs)
+    (λ c κs. search needs) (λ c κs. search needs)
+    (λ c κs. search (needs, none families (c .before .before .before .args .byte) (c .before .match .rest)))
+    (λ c. search needs) (λ c. rw (c .before .before .before .before .match .keys1) (c .before .before .binary .ensures))
+    (λ c. search needs)
+    (λ c. rw (c .before .before .before .before .match .keys2) (c .before .before .binary2 .ensures))
+    (λ c. search needs)
+    (λ c. rw (c .before .before .before .before .match .keys3) (c .before .before .binary3 .ensures))
+    (λ c. search needs) (λ c. rw (c .before .before .before .before .match .keys4) (c .before .before .load .ensures))
+    (λ c. search needs) (λ c. rw (c .before .before .before .before .match .keys5) (c .before .before .unary .ensures))
+    (λ c. search needs) (λ c. rw (c .before .before .before .before .match .keys6) (c .before .before .unary2 .ensures))
+    (λ c. search needs) (λ c. rw (c .before .before .before .before .match .keys7) (c .before .before .store .ensures))
+    (λ c. search needs) (λ c. rw (c .before .before .before .before .match .keys8) (c .before .before .load2 .ensures))
+    (λ c. search needs) (λ c. rw (c .before .before .before .before .match .keys9) (c .before .before .store2 .ensures))
+    (λ c. search needs)
+    (λ c. rw (c .before .before .before .before .match .keys10) (c .before .before .binary4 .ensures))
+    (λ c. search needs)
+    (λ c. rw (c .before .before .before .before .match .keys11) (c .before .before .binary5 .ensures))
+    (λ c. search needs)
+    (λ c. rw (c .before .before .before .before .match .keys12) (c .before .before .binary6 .ensures))
+    (λ c. search needs)
+    (λ c. rw (c .before .before .before .before .match .keys13) (c .before .before .binary7 .ensures))
+    (λ c. search needs)
+    (λ c. rw (c .before .before .before .before .match .keys14) (c .before .before .binary8 .ensures))
+    (λ c. search needs)
+    (λ c. rw (c .before .before .before .before .match .keys15) (c .before .before .binary9 .ensures))
+    (λ c. search needs)
+    (λ c. rw (c .before .before .before .before .match .keys16) (c .before .before .binary10 .ensures))
+    (λ c. search needs)
+    (λ c. rw (c .before .before .before .before .match .keys17) (c .before .before .binary11 .ensures))
+    (λ c. search needs)
+    (λ c. rw (c .before .before .before .before .match .keys18) (c .before .before .binary12 .ensures))
+    (λ c. search needs)
+    (λ c. rw (c .before .before .before .before .match .keys19) (c .before .before .binary13 .ensures))
+    (λ c. search needs)
+    (λ c. rw (c .before .before .before .before .match .keys20) (c .before .before .unary3 .ensures))
+    (λ c. search needs)
+    (λ c. rw (c .before .before .before .before .match .keys21) (c .before .before .binary14 .ensures))
+    (λ c. search needs)
+    (λ c. rw (c .before .before .before .before .match .keys22) (c .before .before .binary15 .ensures))
+    (λ c. search needs) (λ c. rw (c .before .before .before .before .match .keys23) (c .before .before .load3 .ensures))
+    (λ c. search needs)
+    (λ c. rw (c .before .before .before .before .match .keys24) (c .before .before .store3 .ensures))
+    (λ c. search needs)
+    (λ c. rw (c .before .before .before .before .match .keys25) (c .before .before .division .ensures))
+    (λ c. search needs)
+    (λ c. rw (c .before .before .before .before .match .keys26) (c .before .before .division2 .ensures))
+    (λ c. search needs) (λ c. search needs))

@@ -1,0 +1,10 @@
+use Rattle.machine.specs.Table.{effectOf, row}
+use borrow.Author.Needs.{needs}
+use Rattle.jump_instructions.proofs.jumps.emulate.Statement.{statement}
+use Rattle.jump_instructions.proofs.jumps.emulate.Tie as tie
+
+pub emulate-spec : {M : Type 1} → statement M
+unfolding effectOf row
+emulate-spec = tie.close
+    (tie.spec (λ c. search needs) (λ c κs. search needs) (λ c κs. search needs) (λ c. search needs)
+    (λ c. record { answer = cc; memory = cc }))

@@ -1,0 +1,10 @@
+use native.Mathlib.Omega.{arith}
+use Rattle.machine.proofs.Stack.{push-refused, push-room}
+use borrow.Author.Needs.{needs}
+use Rattle.stack_instructions.proofs.pushes.push.Statement.{statement}
+use Rattle.stack_instructions.proofs.pushes.push.Tie as tie
+
+pub push-spec : {M : Type 1} → statement M
+push-spec = tie.close
+    (tie.spec (λ c. push-refused _ _ (omega arith)) (λ c. search needs) (λ c κs. search needs) (λ c. search needs)
+    (λ c. push-room _ _ (omega arith) (omega arith) (cc) (cc)))
