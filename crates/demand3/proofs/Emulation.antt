@@ -23,9 +23,9 @@ use Rattle.machine.specs.Run.{steps}
 use Rattle.machine.proofs.Stack.{has-room}
 use Rattle.laws.proofs.Steps.{steps-add, one-step}
 use Rattle.routines.specs.Constants.{pageLength, firstStackWord, stepBound}
-use Rattle.routines.specs.Page.{Short, shorts, page}
+use Rattle.routines.specs.Page.{Short, shorts, page, code, vector}
 use Rattle.routines.proofs.Entries.{law-at, same-at}
-use Rattle.routines.proofs.Frame.{depth, words, entered, code, vector}
+use Rattle.routines.proofs.Frame.{depth, words, entered}
 use Rattle.routines.proofs.Numbers.{fitting, fits}
 use Rattle.routines.proofs.Shorts.{bytesInPage, byte-in-page, codeInPage, in-page, emulated, ended, runs, Jumps, Results, laws}
 use Rattle.demand3.proofs.Between.{narrower}

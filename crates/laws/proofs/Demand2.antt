@@ -59,11 +59,11 @@ pub limit-first : (core : Core) (n : ℕ) (p q : Place) → Admitted p → steps
 unfolding runFrom
 limit-first core n p q a h = counted core n p a n 0 q (add-zero n) h
 
--- BREAK on the last allowed step is 1, counted, with its own state
-pub break-on-the-last : (core : Core) (n : ℕ) (p q : Place) (t : State) → Admitted p → steps core n p ≡ some q → stepOf core q ≡ stop t
-    → run core (n + 1) p ≡ ended Break (n + 1) (place (q .memory) t)
+-- BREAK is 1, counted, with its own state, on the last allowed step too, where k is 0
+pub break-counted : (core : Core) (n k : ℕ) (p q : Place) (t : State) → Admitted p → steps core n p ≡ some q → stepOf core q ≡ stop t
+    → run core (n + suc k) p ≡ ended Break (n + 1) (place (q .memory) t)
 unfolding runFrom
-break-on-the-last core n p q t a h s = counted core (n + 1) p a n 1 q refl h ∙ rw s
+break-counted core n k p q t a h s = counted core (n + suc k) p a n (suc k) q refl h ∙ rw s
 
 -- a refused instruction counts no step
 pub refused-uncounted : (core : Core) (n k : ℕ) (p q : Place) (o : Outcome) → Admitted p → steps core n p ≡ some q

@@ -12,13 +12,13 @@ use Rattle.machine.specs.Instructions.{below32, below64, decode}
 use Rattle.machine.specs.Table.{row, effectOf, stepOf}
 use Rattle.memory.specs.Memory.{goodLength, getBytes, setBytes}
 use Rattle.machine.specs.State.{state, Place, place}
-use Rattle.machine.specs.Effects.{Effect.refuse}
+use Rattle.machine.specs.Effects.{Effect.refuse, Effect.stop}
 use Rattle.machine.specs.Run.{steps, ended, run}
 use Rattle.laws.specs.Ends.{Admitted, Ends}
 use Rattle.laws.specs.Given.{refusalOf, fetch, illegal, stack, address, divide}
 use Rattle.laws.proofs.Demand1.{image-refused, start-refused, refusal-leaves-all, entry-hands-back, image-reason, start-reason}
-use Rattle.laws.proofs.Demand2.{demand2, limit-first, break-on-the-last, refused-uncounted}
-use Rattle.laws.proofs.Given.{exactly, fetch-given, illegal-given, stack-given, address-given, divide-given}
+use Rattle.laws.proofs.Demand2.{demand2, limit-first, break-counted, refused-uncounted}
+use Rattle.laws.proofs.Given.{exactly, fetch-given, illegal-given, stack-given, address-given, divide-given, break-given}
 
 abbrev at : ℕ → ℕ → State
 at pc sp = state pc sp false
@@ -50,9 +50,13 @@ limit-hides-fetch : run Wide 1 (nops 3) ≡ ended Limit 1 (nops 4)
 unfolding goodLength setBytes steps below32 decode row effectOf stepOf
 limit-hides-fetch = limit-first Wide 1 (nops 3) (nops 4) (record { image = refl; start = omega arith }) refl
 
+break-stops : stepOf Wide (small 2) ≡ stop (at 3 1)
+unfolding fetch
+break-stops = break-given Wide (small 2) (at 3 1) .1 (refl, refl)
+
 break-is-the-last : run Wide 1 (small 2) ≡ ended Break 1 (small 3)
-unfolding steps below32 decode row effectOf stepOf
-break-is-the-last = break-on-the-last Wide 0 (small 2) (small 2) (at 3 1) (small-admitted 2) refl refl
+unfolding steps
+break-is-the-last = break-counted Wide 0 0 (small 2) (small 2) (at 3 1) (small-admitted 2) refl break-stops
 
 illegal-uncounted : run Wide 2 (small 0) ≡ ended Illegal 1 (small 1)
 unfolding setBytes steps below32 decode row effectOf stepOf

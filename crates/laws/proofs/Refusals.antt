@@ -16,7 +16,7 @@ use Rattle.machine.specs.Table.{Row, _⇒_, sp, W, A, B, row, reading, doing}
 use Rattle.laws.specs.Given.{refusalOf, firstOf, outside}
 use Rattle.laws.proofs.Kept.{either}
 
-not-leb : (a b : ℕ) → not (leb a b) ≡ ltb b a
+pub not-leb : (a b : ℕ) → not (leb a b) ≡ ltb b a
 not-leb a b = rw (← leb·suc-suc a b) (not-ltb (suc b) a)
 
 leb-zero : (a : ℕ) → leb a 0 ≡ eqb a 0

@@ -27,7 +27,7 @@ pub record Carried (m : List ℕ) (s : State) (e : Effect) (r : Answer) (m′ : 
   pub answer : r ≡ answerOf s e
   pub memory : m′ ≡ memoryAfter m e
 
--- how a run ends by an answer, n steps before it
+-- how a run would end by an answer, n steps before it; `Done` ends none
 abbrev pub finishOf : Answer → ℕ → Finish
 finishOf (Done t) n = record { outcome = Limit; steps = n + 1; state = t }
 finishOf (Broke t) n = record { outcome = Break; steps = n + 1; state = t }

@@ -1,4 +1,4 @@
--- Each instruction in a line: the stack words that it reads, and what it does with them.
+-- Each instruction in a line: the stack words that it reads, the bytes that it loads, and what it does with them.
 use Prim.Native.Nat.{ℕ, _+_, _-_, _*_, _/_, _^_}
 use mathlib.Core.Bool.{Bool, cond}
 use mathlib.Core.List.{List, [], _∷_}

@@ -64,21 +64,21 @@ fn widened(b: u8) -> u32
     b as u32
 }
 
-// Two getBytes, the higher first.
+// Two bytes, the higher first.
 fn pair(a: u8, b: u8) -> u32
     ensures { λ r. ⌜ r ≡ a * 256 + b ⌝ }
 {
     a as u32 * 256 + b as u32
 }
 
-// The getBytes of a word in the opposite order.
+// The bytes of a word in the opposite order.
 fn reversed(v: u32) -> u32
     ensures { λ r. ⌜ r ≡ reversed v ⌝ }
 {
     v % 256 * 16777216 + v / 256 % 256 * 65536 + v / 65536 % 256 * 256 + v / 16777216
 }
 
-// Four getBytes, the highest first. Taken the lowest first, as the host has them, they are one load.
+// Four bytes, the highest first. Taken the lowest first, as the host has them, they are one load.
 fn four(a: u8, b: u8, c: u8, d: u8) -> u32
     ensures { λ r. ⌜ r ≡ ((a * 256 + b) * 256 + c) * 256 + d ⌝ }
 {
@@ -132,7 +132,7 @@ pub fn write_half(image: &mut [u8], a: ByteAddr, v: u32)
     set_byte(image, at + 1, (v % 256) as u8);
 }
 
-// The four getBytes of v, the lowest first: one store.
+// The four bytes of v, the lowest first: one store.
 fn set_lowest_first(image: &mut [u8], at: usize, v: u32)
     requires { ⌜ at + 3 < length (now image) ⌝ }
     ensures { λ _. ⌜ now (image .exit) ≡ set (set (set (set (now (image .entry)) at (v % 256)) (at + 1) (v / 256 % 256)) (at + 2) (v / 65536 % 256)) (at + 3) (v / 16777216) ⌝ }

@@ -1,7 +1,7 @@
 -- The frame machine: the narrow core over a window of words in which the place of sp is known, so that a routine runs in the checker.
 use Prim.Native.Nat.{ℕ, zero, suc, _+_, _-_, _*_}
 use mathlib.Core.Bool.{Bool, true, false, cond}
-use mathlib.Core.List.{List, [], _∷_, map}
+use mathlib.Core.List.{List, [], _∷_}
 use lib.ListN.{length, getD, set}
 use lib.Dec.{ltb}
 use Rattle.arithmetic.specs.Words.{wrap}
@@ -9,15 +9,7 @@ use Rattle.arithmetic.specs.Operations.{unaryOf, binaryOf}
 use Rattle.arithmetic.specs.declared.BinOp.the-variants.{Add}
 use Rattle.machine.specs.Instructions.{Instr, Instr.IM, Instr.STORESP, Instr.LOADSP, Instr.EMULATE, Instr.ADDSP, Instr.PUSHSP, Instr.POPSP, Instr.POPPC, Instr.NOP, Instr.BREAK, Instr.ILLEGAL, Instr.PUSHSPADD, Instr.CALL, Instr.CALLPCREL, Instr.POPPCREL, Instr.PUSHPC, Instr.NEQBRANCH, Instr.EQBRANCH, Instr.unary, Instr.binary, Instr.division, Instr.load, Instr.store}
 use Rattle.machine.specs.Table.{extended}
-use Rattle.routines.specs.Page.{Short}
-
--- the routine of a short instruction
-abbrev pub code : Short → List Instr
-code o = map (λ l. l .1) (o .lines)
-
--- where the routine of a byte begins
-abbrev pub vector : ℕ → ℕ
-vector b = 32 * (b - 32)
+use Rattle.routines.specs.Page.{Short, code}
 
 -- the byte address of word p of a window that begins at word base
 unfoldable pub address : ℕ → ℕ → ℕ

@@ -7,8 +7,8 @@ use lib.ListN.{length}
 use lib.Dec.{leb}
 use Rattle.memory.proofs.Tests.{every}
 use Rattle.routines.specs.Constants.{pageLength, firstStackWord, freeWords, stepBound}
-use Rattle.routines.specs.Page.{Short, shorts}
-use Rattle.routines.proofs.Frame.{depth, code, vector}
+use Rattle.routines.specs.Page.{Short, shorts, code, vector}
+use Rattle.routines.proofs.Frame.{depth}
 
 -- each routine ends in the page, and with EMULATE within its own bound, which is within the page's
 abbrev pub fitting : Short → Bool

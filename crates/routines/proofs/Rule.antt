@@ -13,9 +13,8 @@ use Rattle.machine.specs.declared.Core.the-variants.{Narrow}
 use Rattle.machine.specs.Instructions.{decode}
 use Rattle.memory.proofs.Tests.{In, both, every, at-entry, at-each}
 use Rattle.routines.specs.Constants.{pageLength}
-use Rattle.routines.specs.Page.{Short, shorts, page}
+use Rattle.routines.specs.Page.{Short, shorts, page, code, vector}
 use Rattle.routines.proofs.Entries.{same-at}
-use Rattle.routines.proofs.Frame.{code, vector}
 use Rattle.routines.proofs.Shorts.{bytesInPage, byte-in-page, codeInPage, in-page}
 
 pub page-length : length page ≡ pageLength

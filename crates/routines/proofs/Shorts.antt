@@ -14,9 +14,9 @@ use Rattle.machine.specs.declared.State.{State}
 use Rattle.machine.specs.State.{jump}
 use Rattle.machine.specs.Instructions.{Instr, Instr.EMULATE, decode, below32, below64}
 use Rattle.machine.specs.Table.{Act.goes, Act.puts, Row, _⇒_, row, counter, sp, A, B}
-use Rattle.routines.specs.Page.{Short, shorts, page}
+use Rattle.routines.specs.Page.{Short, shorts, page, code, vector}
 use Rattle.routines.proofs.Entries.{Each, Each.end, Each._&_}
-use Rattle.routines.proofs.Frame.{Frame, Frame.left, depth, through, entered, goal, window, code, vector}
+use Rattle.routines.proofs.Frame.{Frame, Frame.left, depth, through, entered, goal, window}
 use Rattle.routines.proofs.Comparisons.{less-than, less-than-or-equal, u-less-than, u-less-than-or-equal}
 use Rattle.routines.proofs.Laws.{equal, not-equal, negation, subtraction, exclusive-or, branch, stack-address}
 

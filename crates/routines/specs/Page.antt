@@ -1,5 +1,5 @@
 -- The twelve short instructions as data, and the page that serves them.
-use Prim.Native.Nat.{ℕ, zero, suc, _+_, _*_}
+use Prim.Native.Nat.{ℕ, zero, suc, _+_, _-_, _*_}
 use mathlib.Core.Bool.{cond}
 use mathlib.Core.List.{List, [], _∷_, _++_, map}
 use lib.ListN.{take, replicate}
@@ -9,12 +9,13 @@ use Rattle.arithmetic.specs.Operations.{unaryOf, binaryOf}
 use Rattle.arithmetic.specs.declared.UnOp.the-variants.{Neg}
 use Rattle.arithmetic.specs.declared.BinOp.{BinOp}
 use Rattle.arithmetic.specs.declared.BinOp.the-variants.{LessThan, LessThanOrEqual, ULessThan, ULessThanOrEqual, Eq, Neq, Sub, Xor}
+use Rattle.machine.specs.Instructions.{Instr}
 use Rattle.routines.specs.Constants.{pageLength}
 use Rattle.routines.specs.Routines.{Line, lessThan, lessThanOrEqual, uLessThan, uLessThanOrEqual, call, eq, neq, neg, sub, xor, neqBranch, pushSpAdd}
 
 -- a short instruction: the words that it reads, how many of them it pops off, where it goes from the counter, A and B,
 -- what it leaves on top (nothing, if it pops all that it reads) from the counter, sp, A and B, its routine, and the narrow
--- steps that it takes at most, EMULATE among them
+-- steps that it takes at most, EMULATE among them. What it means is its line of the machine's table, which `meanings` compares
 pub record Short : Type 0 where
   pub byte : ℕ
   pub operands : ℕ
@@ -55,6 +56,14 @@ shorts =
     ∷ twoToNone 56 (λ c x y. cond (eqb y 0) (wrap (c + 1)) (wrap (c + x))) neqBranch 21
     ∷ oneToOne 61 following (λ c s x y. wrap (4 * s + 4 * x)) pushSpAdd 10
     ∷ []
+
+-- the routine of a short instruction
+abbrev pub code : Short → List Instr
+code o = map (λ l. l .1) (o .lines)
+
+-- where the routine of a byte begins
+abbrev pub vector : ℕ → ℕ
+vector b = 32 * (b - 32)
 
 abbrev pub bytesOf : List Line → List ℕ
 bytesOf = map (λ l. l .0)
