@@ -1,3 +1,4 @@
+pub mod Numbers
 pub mod Between
 pub mod Window
 pub mod Emulation

@@ -10,6 +10,7 @@ use native.Mathlib.Decide.{decLt}
 use lib.ListN.{length}
 use lib.Dec.{T, ltb, leb, eqb, ltb→lt}
 use borrow.Author.Tests.{le-ltb, eqb-true, eq-eqb, ne-eqb}
+use Rattle.memory.proofs.Tests.{either-way}
 use Rattle.machine.specs.declared.Core.{Core}
 use Rattle.machine.specs.declared.Core.the-variants.{Narrow, Wide}
 use Rattle.machine.specs.declared.State.{State}
@@ -28,9 +29,6 @@ use Rattle.laws.proofs.Refusals.{Kind, plain, Refused, kind, refused, n
 inward : {X Y : Type 0} (f : X → Y) (t : Bool) (x y : X) → f (cond t x y) ≡ cond t (f x) (f y)
 inward f true x y = refl
 inward f false x y = refl
-
-both : {X : Type 0} (t : Bool) (x : X) → cond t x x ≡ x
-both t x = sym (inward (λ _. x) t x x)
 
 -- what f gives below n
 abbrev table : {X : Type 0} → (ℕ → X) → ℕ → List X
@@ -65,7 +63,7 @@ unfolding decode
 every-byte f g core e k b = elim (decLt b 64) [
   | yes h ↦ same-table (λ b. f (decode core b)) g 64 e b h
   | no h ↦ let l : 64 ≤ b = omega arith in let k = k b l in
-      simp (le-ltb b 32 (omega arith), le-ltb b 64 l, inward f, both, k (inverted b) .0, k (inverted b) .1, k (b - 128) .2)
+      simp (le-ltb b 32 (omega arith), le-ltb b 64 l, inward f, either-way, k (inverted b) .0, k (inverted b) .1, k (b - 128) .2)
 ]
 
 module _ (m : List ℕ) (s : State) where
@@ -154,13 +152,13 @@ module _ (m : List ℕ) (s : State) where
 
   stops-below-64 : (core : Core) → table (λ b. stopBy (row m s (decode core b))) 64 ≡ table ifBreak 64
   unfolding decode below32 below64 row
-  stops-below-64 Narrow = simp (inward stopOf, both)
-  stops-below-64 Wide = simp (inward stopOf, inward (doing m s), both)
+  stops-below-64 Narrow = simp (inward stopOf, either-way)
+  stops-below-64 Wide = simp (inward stopOf, inward (doing m s), either-way)
 
   stops-by-byte : (core : Core) (b : ℕ) → stopBy (row m s (decode core b)) ≡ ifBreak b
   unfolding row
   stops-by-byte core = every-byte (λ i. stopBy (row m s i)) ifBreak core (stops-below-64 core) λ b h n.
-      simp (past b h 0 tt, inward stopBy, inward stopOf, both) (refl, refl, refl)
+      simp (past b h 0 tt, inward stopBy, inward stopOf, either-way) (refl, refl, refl)
 
 -- BREAK is byte 0 carried out: the counter moves on by 1, the flag is clear, and sp stays
 pub break-given : (core : Core) (p : Place) (t : State) → stepOf core p ≡ stop t

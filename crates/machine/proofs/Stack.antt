@@ -2,7 +2,6 @@
 use Prim.Native.Nat.{ℕ, _+_, _-_, _*_, _/_, _≤_, _<_}
 use mathlib.Core.Path.{_≡_, refl, _∙_}
 use mathlib.Core.Logic.{inl, inr}
-use mathlib.Core.Bool.{Bool, true, false, cond}
 use mathlib.Core.List.{List, [], _∷_}
 use native.Mathlib.Omega.{arith}
 use lib.ListN.{length}
@@ -10,7 +9,7 @@ use lib.Dec.{ltb}
 use borrow.Author.Tests.{lt-ltb, le-ltb}
 use Rattle.memory.specs.Memory.{setBytes}
 use Rattle.machine.specs.Effects.{Effect, Effect.refuse, Effect.go}
-use Rattle.memory.proofs.Tests.{In}
+use Rattle.memory.proofs.Tests.{either-way, In}
 use Rattle.memory.proofs.Memory.{none-written}
 use Rattle.machine.specs.declared.State.{State}
 use Rattle.machine.specs.declared.Answer.{Answer}
@@ -19,10 +18,6 @@ use Rattle.machine.specs.declared.Outcome.{Outcome}
 use Rattle.machine.specs.declared.Outcome.the-variants.{Stack}
 use Rattle.machine.specs.Table.{Act.goes, Act.puts, Act.pushes, sp, reading, doing}
 use Rattle.machine.specs.Inner.{Carried}
-
-either-way : (t : Bool) (e : Effect) → cond t e e ≡ e
-either-way true e = refl
-either-way false e = refl
 
 module _ (m : List ℕ) (s : State) where
   abbrev pub AllInside : List ℕ → Type 0

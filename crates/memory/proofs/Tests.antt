@@ -32,6 +32,10 @@ pub left-out : {A : Type 0} (t : Bool) → t ≡ false → (x y : A) → cond t 
 left-out true h x y = let z : _≡_ {A = ℕ} 0 1 = cc in absurd (omega arith)
 left-out false h x y = refl
 
+pub either-way : {A : Type 0} (t : Bool) (x : A) → cond t x x ≡ x
+either-way true x = refl
+either-way false x = refl
+
 -- x is an entry
 abbrev pub In : {A : Type 0} → A → List A → Type 0
 In x [] = ⊥

@@ -35,6 +35,14 @@ fn ended_by(answer: Answer, n: u32) -> Finish
     }
 }
 
+// One step more, of `limit` at most.
+fn counted(n: u32, limit: u32) -> u32
+    requires { ⌜ n < limit ⌝ }
+    ensures { λ r. ⌜ r ≡ n + 1 ⌝ }
+{
+    n + 1
+}
+
 // The steps in order, counted, to the first stop.
 fn run_from(core: Core, image: &mut [u8], start: State, limit: u32) -> Finish
     requires { ⌜ Ready (now image) start ⌝ }
@@ -48,7 +56,7 @@ fn run_from(core: Core, image: &mut [u8], start: State, limit: u32) -> Finish
             return ended_by(answer, n);
         };
         s = next;
-        n += 1;
+        n = counted(n, limit);
     }
     Finish {
         outcome: Outcome::Limit,

@@ -52,29 +52,26 @@ returns c =
     (d .ensures .memory)
     ∙ sym (l .inv .3 ∙ e)
 
-add-n : tie.Need-add-n Inv-loop μ-loop
-add-n c = omega arith
+counted-requires : tie.Need-counted-requires Inv-loop μ-loop
+counted-requires c κs = omega arith
 
 loop-less : tie.Need-loop-less Inv-loop μ-loop
 loop-less c = omega arith
 
 loop-again : tie.Need-loop-again Inv-loop μ-loop
 loop-again c =
-    let at = c .before .before .before .before .before .before .before .before in
+    let told = c .before .before in
+    let tested = told .before .before .before .before .before .before in
+    let at = tested .before in
     let a = at .before .before .args in
     let l = at .loop in
-    let d = c .before .before .before .before .before .step in
-    let t = c .before .answer .given .0 .0 in
-    let done = sym (d .ensures .answer) ∙ c .before .answer .given .1 in
+    let d = told .before .before .before .before .step in
+    let t = told .answer .given .0 .0 in
+    let done = sym (d .ensures .answer) ∙ told .answer .given .1 in
     let k = done-in (l .image) (l .s) (l .inv .2) (a .core) t done in
-    let e =
-    turn (l .image) (l .s) (a .core) (a .limit) (l .n)
-    (c .before .before .before .before .before .before .before .loop-test .taken) t done in (
-      omega arith,
-      omega arith,
-      omega (arith, k),
-      l .inv .3 ∙ e ∙ ap (λ (m : List ℕ). runFrom (a .core) (a .limit - (l .n + 1)) (l .n + 1) (place m t)) (sym (d .ensures .memory)),
-    )
+    let e = turn (l .image) (l .s) (a .core) (a .limit) (l .n) (tested .loop-test .taken) t done in
+    let same = ap (λ (m : List ℕ). runFrom (a .core) (a .limit - (l .n + 1)) (l .n + 1) (place m t)) (sym (d .ensures .memory)) in
+    rw (c .counted .ensures) (omega arith, omega arith, omega (arith, k), l .inv .3 ∙ e ∙ same)
 
 same-length-2 : tie.Need-same-length-2 Inv-loop μ-loop
 same-length-2 c = omega arith
@@ -88,5 +85,5 @@ returns-2 c =
 pub run-from-spec : {M : Type 1} → statement M
 run-from-spec =
     tie.close
-    (tie.spec Inv-loop μ-loop loop-holds step-requires enum-known-answer ended-by-requires same-length returns add-n
+    (tie.spec Inv-loop μ-loop loop-holds step-requires enum-known-answer ended-by-requires same-length returns counted-requires
     loop-less loop-again same-length-2 returns-2)
