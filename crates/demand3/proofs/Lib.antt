@@ -1,4 +1,3 @@
-pub mod Numbers
 pub mod Between
 pub mod Window
 pub mod Emulation

@@ -1,5 +1,5 @@
 -- Demand 3 holds.
-use Prim.Native.Nat.{ℕ, zero, suc, _+_}
+use Prim.Native.Nat.{ℕ, zero, suc, _+_, _-_, _*_}
 use mathlib.Core.Path.{_≡_, refl, sym, ap, _∙_}
 use mathlib.Core.Bool.{Bool, true, false}
 use mathlib.Core.List.{List}
@@ -16,7 +16,7 @@ use Rattle.machine.specs.Table.{stepOf}
 use Rattle.machine.specs.Run.{steps}
 use Rattle.laws.proofs.Steps.{Goes, first-step, no-step, steps-add}
 use Rattle.routines.specs.Constants.{pageLength}
-use Rattle.demand3.specs.Dirt.{Dirt, clean, isShort, dirtied}
+use Rattle.demand3.specs.Dirt.{Dirt, clean, isShort, dirtied, between, below}
 use Rattle.demand3.specs.Demand3.{WithPage, Allowed, AllAllowed, dirtAfter, Demand3, isCore}
 use Rattle.demand3.proofs.Alike.{Alike, Tracks}
 use Rattle.demand3.proofs.CoreStep.{core-step}
@@ -76,3 +76,7 @@ demand3 n p q S R =
       same-length = t .alike .same-length;
       same-bytes = t .alike .same-bytes;
     }
+
+-- the words of dirt are the paper's: the 16 directly below the sp at its start
+pub sixteen-below : (sp x : ℕ) → below sp x ≡ between (4 * (sp - 16)) (4 * sp) x
+sixteen-below sp x = refl
