@@ -1,9 +1,10 @@
 // LOAD, LOADH and LOADB: the address is replaced by what stands there.
-use machine::Answer;
 use machine::Outcome;
 use machine::State;
+use machine::Way;
 use machine::Width;
 use memory::ByteAddr;
+use memory::WordIndex;
 ghost use mathlib.Core.Path.{_≡_};
 ghost use Prim.Native.Nat.{_%_, _<_, _≤_};
 ghost use lib.ListN.{length};
@@ -23,19 +24,19 @@ fn read(image: &[u8], w: Width, a: ByteAddr) -> u32
     }
 }
 
-pub fn load(image: &mut [u8], s: State, w: Width) -> Answer
+pub fn load(image: &mut [u8], s: State, w: Width) -> Way
     requires { ⌜ Ready (now image) s ⌝ }
     ensures { λ r. ⌜ Carried (now (image .entry)) s (effectOf (now (image .entry)) s (load w)) r (now (image .exit)) ⌝ }
 {
     let sp = s.sp.0;
     if memory::words(image).0 <= sp {
-        return Answer::Refused(s, Outcome::Stack);
+        return Way::Refuse(Outcome::Stack);
     }
     let a = memory::read_word(image, s.sp);
     if image.len() <= a as usize {
-        return Answer::Refused(s, Outcome::Address);
+        return Way::Refuse(Outcome::Address);
     }
     let v = read(image, w, ByteAddr(a));
     memory::write_word(image, s.sp, v);
-    Answer::Done(s.next(s.sp))
+    Way::Next(WordIndex(sp))
 }

@@ -1,7 +1,7 @@
 // STORE, STOREH and STOREB: pop address, pop value, write.
-use machine::Answer;
 use machine::Outcome;
 use machine::State;
+use machine::Way;
 use machine::Width;
 use memory::ByteAddr;
 use memory::WordIndex;
@@ -24,20 +24,20 @@ fn write(image: &mut [u8], w: Width, a: ByteAddr, v: u32)
     }
 }
 
-pub fn store(image: &mut [u8], s: State, w: Width) -> Answer
+pub fn store(image: &mut [u8], s: State, w: Width) -> Way
     requires { ⌜ Ready (now image) s ⌝ }
     ensures { λ r. ⌜ Carried (now (image .entry)) s (effectOf (now (image .entry)) s (store w)) r (now (image .exit)) ⌝ }
 {
     let sp = s.sp.0;
     if memory::words(image).0 <= sp + 1 {
-        return Answer::Refused(s, Outcome::Stack);
+        return Way::Refuse(Outcome::Stack);
     }
-    let t = s.next(WordIndex(sp + 2));
+    let popped = WordIndex(sp + 2);
     let a = memory::read_word(image, s.sp);
     if image.len() <= a as usize {
-        return Answer::Refused(s, Outcome::Address);
+        return Way::Refuse(Outcome::Address);
     }
     let b = memory::read_word(image, WordIndex(sp + 1));
     write(image, w, ByteAddr(a), b);
-    Answer::Done(t)
+    Way::Next(popped)
 }

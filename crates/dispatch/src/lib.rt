@@ -2,9 +2,9 @@
 use arithmetic::BinOp;
 use arithmetic::DivOp;
 use arithmetic::UnOp;
-use machine::Answer;
 use machine::Outcome;
 use machine::State;
+use machine::Way;
 use machine::Width;
 ghost use mathlib.Core.Path.{_≡_};
 ghost use mathlib.Core.Bool.{false, cond};
@@ -17,27 +17,28 @@ ghost use Rattle.machine.specs.Inner.{Ready, Carried};
 ghost use Rattle.dispatch.specs.Families.{families};
 
 // ADDSP is bytes 16 to 31.
-fn addsp_or_illegal(image: &mut [u8], s: State, byte: u8) -> Answer
+fn addsp_or_illegal(image: &mut [u8], s: State, byte: u8) -> Way
     requires { ⌜ Ready (now image) s ⌝ }
     ensures { λ r. ⌜ Carried (now (image .entry)) s (effectOf (now (image .entry)) s (cond (eqb (byte / 16) 1) (ADDSP (byte % 16)) ILLEGAL)) r (now (image .exit)) ⌝ }
 {
     if byte / 16 == 1 {
         return stack_instructions::addsp(image, s, byte % 16);
     }
-    Answer::Refused(s, Outcome::Illegal)
+    Way::Refuse(Outcome::Illegal)
 }
 
 // The other instructions: the byte is none of `families`.
-fn others(image: &mut [u8], s: State, byte: u8) -> Answer
+fn others(image: &mut [u8], s: State, byte: u8) -> Way
     requires { ⌜ Ready (now image) s ⌝ }
     requires { ⌜ (byte < 64) × (among byte families ≡ false) ⌝ }
     ensures { λ r. ⌜ Carried (now (image .entry)) s (effectOf (now (image .entry)) s (decode Wide byte)) r (now (image .exit)) ⌝ }
 {
+    let sp = s.sp;
     match byte {
-        0 => Answer::Broke(s.next(s.sp)),
+        0 => Way::Stop,
         2 => stack_instructions::pushsp(image, s),
         4 => jump_instructions::poppc(image, s),
-        11 => Answer::Done(s.next(s.sp)),
+        11 => Way::Next(sp),
         13 => stack_instructions::popsp(image, s),
         45 => jump_instructions::call(image, s),
         55 => jump_instructions::eqbranch(image, s),
@@ -51,7 +52,7 @@ fn others(image: &mut [u8], s: State, byte: u8) -> Answer
 }
 
 // The families, and the other instructions.
-pub fn below_64(image: &mut [u8], s: State, byte: u8) -> Answer
+pub fn below_64(image: &mut [u8], s: State, byte: u8) -> Way
     requires { ⌜ Ready (now image) s ⌝ }
     requires { ⌜ byte < 64 ⌝ }
     ensures { λ r. ⌜ Carried (now (image .entry)) s (effectOf (now (image .entry)) s (decode Wide byte)) r (now (image .exit)) ⌝ }

@@ -1,9 +1,10 @@
 // POPPC, POPPCREL and EMULATE.
-use machine::Answer;
 use machine::Outcome;
 use machine::State;
+use machine::Way;
 use memory::ByteAddr;
 use memory::WordIndex;
+use stack_instructions::Onward;
 ghost use mathlib.Core.Path.{_≡_};
 ghost use Prim.Native.Nat.{_+_, _<_};
 ghost use Rattle.arithmetic.specs.Words.{wrap};
@@ -18,35 +19,40 @@ pub(crate) fn relative(s: State, a: u32) -> ByteAddr
     ByteAddr(std::num::wrapping_add_u32(s.pc.0, a))
 }
 
-pub fn poppc(image: &[u8], s: State) -> Answer
+pub fn poppc(image: &[u8], s: State) -> Way
     requires { ⌜ Ready (now image) s ⌝ }
     ensures { λ r. ⌜ Carried (now (image .entry)) s (effectOf (now (image .entry)) s POPPC) r (now (image .entry)) ⌝ }
 {
     let sp = s.sp.0;
     if memory::words(image).0 <= sp {
-        return Answer::Refused(s, Outcome::Stack);
+        return Way::Refuse(Outcome::Stack);
     }
     let a = memory::read_word(image, s.sp);
-    Answer::Done(s.jump(ByteAddr(a), WordIndex(sp + 1)))
+    Way::Jump(ByteAddr(a), WordIndex(sp + 1))
 }
 
-pub fn poppcrel(image: &[u8], s: State) -> Answer
+pub fn poppcrel(image: &[u8], s: State) -> Way
     requires { ⌜ Ready (now image) s ⌝ }
     ensures { λ r. ⌜ Carried (now (image .entry)) s (effectOf (now (image .entry)) s POPPCREL) r (now (image .entry)) ⌝ }
 {
     let sp = s.sp.0;
     if memory::words(image).0 <= sp {
-        return Answer::Refused(s, Outcome::Stack);
+        return Way::Refuse(Outcome::Stack);
     }
     let a = memory::read_word(image, s.sp);
-    Answer::Done(s.jump(relative(s, a), WordIndex(sp + 1)))
+    Way::Jump(relative(s, a), WordIndex(sp + 1))
 }
 
 // The vector of the k-th byte from 32 on.
-pub fn emulate(image: &mut [u8], s: State, k: u8) -> Answer
+pub fn emulate(image: &mut [u8], s: State, k: u8) -> Way
     requires { ⌜ Ready (now image) s ⌝ }
     requires { ⌜ k < 32 ⌝ }
     ensures { λ r. ⌜ Carried (now (image .entry)) s (effectOf (now (image .entry)) s (EMULATE k)) r (now (image .exit)) ⌝ }
 {
-    stack_instructions::push(image, s, ByteAddr(32 * (k as u32)), false, s.following().0)
+    stack_instructions::push(
+        image,
+        s,
+        Onward::Jump(ByteAddr(32 * (k as u32))),
+        s.following().0,
+    )
 }

@@ -4,10 +4,13 @@ use mathlib.Core.Path.{_≡_}
 use mathlib.Core.List.{List}
 use lib.ListN.{length}
 use Rattle.machine.specs.declared.State.{State}
+use Rattle.machine.specs.declared.Way.{Way}
+use Rattle.machine.specs.declared.Way.the-variants.{Next, NextFlagged, Jump, Stop, Refuse}
 use Rattle.machine.specs.declared.Answer.{Answer}
 use Rattle.machine.specs.declared.Answer.the-variants.{Done, Broke, Refused}
 use Rattle.machine.specs.declared.Finish.{Finish}
 use Rattle.machine.specs.declared.Outcome.the-variants.{Limit, Break}
+use Rattle.machine.specs.State.{next, nextFlagged, jump}
 use Rattle.machine.specs.Effects.{Effect, Effect.refuse, Effect.stop, Effect.go, memoryAfter}
 
 -- what holds of memory and state from the run's entry on
@@ -16,14 +19,33 @@ pub record Ready (m : List ℕ) (s : State) : Type 0 where
   pub whole : length m % 4 ≡ 0
   pub sp-inside : s .sp .0 ≤ length m / 4
 
+-- an effect but for what it writes
+abbrev pub unwritten : Effect → Effect
+unwritten (refuse o) = refuse o
+unwritten (stop t) = stop t
+unwritten (go t a k v) = go t 0 0 0
+
+-- the effect, but for what it writes, that a way from s tells
+abbrev pub told : State → Way → Effect
+told s (Next sp) = go (next s (sp .0)) 0 0 0
+told s (NextFlagged sp) = go (nextFlagged s (sp .0)) 0 0 0
+told s (Jump pc sp) = go (jump s (pc .0) (sp .0)) 0 0 0
+told s Stop = stop (next s (s .sp .0))
+told s (Refuse o) = refuse o
+
+-- e was carried out from m and s: r is the way, and m′ is memory then
+pub record Carried (m : List ℕ) (s : State) (e : Effect) (r : Way) (m′ : List ℕ) : Type 0 where
+  pub way : told s r ≡ unwritten e
+  pub memory : m′ ≡ memoryAfter m e
+
 -- what a step from s answers
 abbrev pub answerOf : State → Effect → Answer
 answerOf s (refuse o) = Refused s o
 answerOf s (stop t) = Broke t
 answerOf s (go t a k v) = Done t
 
--- e was carried out from m and s: r was answered, and m′ is memory then
-pub record Carried (m : List ℕ) (s : State) (e : Effect) (r : Answer) (m′ : List ℕ) : Type 0 where
+-- a step of the effect e was done from m and s: r was answered, and m′ is memory then
+pub record Answered (m : List ℕ) (s : State) (e : Effect) (r : Answer) (m′ : List ℕ) : Type 0 where
   pub answer : r ≡ answerOf s e
   pub memory : m′ ≡ memoryAfter m e
 

@@ -5,6 +5,8 @@ ghost use mathlib.Core.Path.{_≡_};
 ghost use Prim.Native.Nat.{_+_};
 ghost use Rattle.arithmetic.specs.Words.{wrap};
 ghost use Rattle.machine.specs.State.{next, nextFlagged, jump};
+ghost use Rattle.machine.specs.Instructions.{inverted};
+ghost use Rattle.machine.specs.Inner.{answerOf, told};
 
 pub enum Core {
     Narrow,
@@ -73,6 +75,29 @@ impl State {
             flag: false,
         }
     }
+
+    // What a step that an instruction leaves by `way` answers.
+    pub fn after(self, way: Way) -> Answer
+        ensures { λ r. ⌜ r ≡ answerOf self (told self way) ⌝ }
+    {
+        let sp = self.sp;
+        match way {
+            Way::Next(to) => Answer::Done(self.next(to)),
+            Way::NextFlagged(to) => Answer::Done(self.next_flagged(to)),
+            Way::Jump(pc, to) => Answer::Done(self.jump(pc, to)),
+            Way::Stop => Answer::Broke(self.next(sp)),
+            Way::Refuse(o) => Answer::Refused(self, o),
+        }
+    }
+}
+
+// How an instruction leaves the state: by which of its methods and with which stack pointer, by BREAK, or not, and why.
+pub enum Way {
+    Next(WordIndex),
+    NextFlagged(WordIndex),
+    Jump(ByteAddr, WordIndex),
+    Stop,
+    Refuse(Outcome),
 }
 
 // What a step answers: the next state, the state after a BREAK, or the state it refused to leave and why.
@@ -87,4 +112,11 @@ pub struct Finish {
     pub outcome: Outcome,
     pub steps: u32,
     pub state: State,
+}
+
+// The offset of STORESP and LOADSP in their byte: its low five bits with bit 4 inverted.
+pub fn inverted(byte: u8) -> u8
+    ensures { λ r. ⌜ r ≡ inverted byte ⌝ }
+{
+    (byte % 32 + 16) % 32
 }

@@ -1,11 +1,13 @@
 // IM: with the flag clear the seven bits are pushed, sign-extended; with it set they are joined to the top.
 use crate::pushes;
-use machine::Answer;
+use crate::pushes::Onward;
 use machine::Outcome;
 use machine::State;
+use machine::Way;
+use memory::WordIndex;
 ghost use mathlib.Core.Path.{_≡_};
 ghost use mathlib.Core.Bool.{true};
-ghost use Prim.Native.Nat.{_+_, _-_, _*_, _<_, _≤_};
+ghost use Prim.Native.Nat.{_+_, _*_, _%_, _<_};
 ghost use Rattle.arithmetic.specs.Words.{wrap};
 ghost use Rattle.machine.specs.Table.{effectOf, extended};
 ghost use Rattle.machine.specs.Instructions.{Instr.IM};
@@ -25,30 +27,29 @@ fn joined(a: u32, v: u32) -> u32
     ((a as u64 * 128 + v as u64) % 4294967296) as u32
 }
 
-fn continued(image: &mut [u8], s: State, v: u32) -> Answer
+fn continued(image: &mut [u8], s: State, v: u32) -> Way
     requires { ⌜ Ready (now image) s ⌝ }
     requires { ⌜ s .flag ≡ true ⌝ }
     ensures { λ r. ⌜ Carried (now (image .entry)) s (effectOf (now (image .entry)) s (IM v)) r (now (image .exit)) ⌝ }
 {
     let sp = s.sp.0;
     if memory::words(image).0 <= sp {
-        return Answer::Refused(s, Outcome::Stack);
+        return Way::Refuse(Outcome::Stack);
     }
     let a = memory::read_word(image, s.sp);
     memory::write_word(image, s.sp, joined(a, v));
-    Answer::Done(s.next_flagged(s.sp))
+    Way::NextFlagged(WordIndex(sp))
 }
 
-pub fn im(image: &mut [u8], s: State, byte: u8) -> Answer
+pub fn im(image: &mut [u8], s: State, byte: u8) -> Way
     requires { ⌜ Ready (now image) s ⌝ }
-    requires { ⌜ 128 ≤ byte ⌝ }
-    ensures { λ r. ⌜ Carried (now (image .entry)) s (effectOf (now (image .entry)) s (IM (byte - 128))) r (now (image .exit)) ⌝ }
+    ensures { λ r. ⌜ Carried (now (image .entry)) s (effectOf (now (image .entry)) s (IM (byte % 128))) r (now (image .exit)) ⌝ }
 {
-    let v = byte as u32 - 128;
+    let v = byte as u32 % 128;
     let flag = s.flag;
     if flag {
         continued(image, s, v)
     } else {
-        pushes::push(image, s, s.following(), true, extended(v))
+        pushes::push(image, s, Onward::NextFlagged, extended(v))
     }
 }

@@ -11,6 +11,7 @@ pub use offsets::loadsp;
 pub use offsets::storesp;
 pub use pointer::popsp;
 pub use pointer::pushspadd;
+pub use pushes::Onward;
 pub use pushes::push;
 pub use pushes::pushpc;
 pub use pushes::pushsp;

@@ -1,7 +1,7 @@
 // POPSP and PUSHSPADD.
-use machine::Answer;
 use machine::Outcome;
 use machine::State;
+use machine::Way;
 use memory::ByteAddr;
 use memory::WordIndex;
 ghost use mathlib.Core.Path.{_≡_};
@@ -11,21 +11,21 @@ ghost use Rattle.machine.specs.Table.{effectOf};
 ghost use Rattle.machine.specs.Instructions.{Instr.POPSP, Instr.PUSHSPADD};
 ghost use Rattle.machine.specs.Inner.{Ready, Carried};
 
-pub fn popsp(image: &[u8], s: State) -> Answer
+pub fn popsp(image: &[u8], s: State) -> Way
     requires { ⌜ Ready (now image) s ⌝ }
     ensures { λ r. ⌜ Carried (now (image .entry)) s (effectOf (now (image .entry)) s POPSP) r (now (image .entry)) ⌝ }
 {
     let sp = s.sp.0;
     let words = memory::words(image).0;
     if words <= sp {
-        return Answer::Refused(s, Outcome::Stack);
+        return Way::Refuse(Outcome::Stack);
     }
     let to = ByteAddr(memory::read_word(image, s.sp)).word();
     let at = to.0;
     if words < at {
-        return Answer::Refused(s, Outcome::Stack);
+        return Way::Refuse(Outcome::Stack);
     }
-    Answer::Done(s.next(to))
+    Way::Next(to)
 }
 
 // Four times the sum of a word index and a word.
@@ -36,15 +36,15 @@ fn four_times(w: WordIndex, a: u32) -> u32
     ((w.byte().0 as u64 + 4 * (a as u64)) % 4294967296) as u32
 }
 
-pub fn pushspadd(image: &mut [u8], s: State) -> Answer
+pub fn pushspadd(image: &mut [u8], s: State) -> Way
     requires { ⌜ Ready (now image) s ⌝ }
     ensures { λ r. ⌜ Carried (now (image .entry)) s (effectOf (now (image .entry)) s PUSHSPADD) r (now (image .exit)) ⌝ }
 {
     let sp = s.sp.0;
     if memory::words(image).0 <= sp {
-        return Answer::Refused(s, Outcome::Stack);
+        return Way::Refuse(Outcome::Stack);
     }
     let a = memory::read_word(image, s.sp);
     memory::write_word(image, s.sp, four_times(s.sp, a));
-    Answer::Done(s.next(s.sp))
+    Way::Next(WordIndex(sp))
 }

@@ -1,39 +1,50 @@
 // The push that every pushing instruction goes through, and PUSHSP and PUSHPC.
-use machine::Answer;
 use machine::Outcome;
 use machine::State;
+use machine::Way;
 use memory::ByteAddr;
 use memory::WordIndex;
 ghost use Prim.Native.Nat.{_-_};
-ghost use Rattle.machine.specs.State.{state};
 ghost use Rattle.machine.specs.Table.{Act.pushes, doing, effectOf};
 ghost use Rattle.machine.specs.Instructions.{Instr.PUSHSP, Instr.PUSHPC};
 ghost use Rattle.machine.specs.Inner.{Ready, Carried};
+ghost use Rattle.stack_instructions.specs.Pushes.{onwardFrom};
 
-// Word sp - 1 becomes v, the counter `pc` and the flag `flag`.
-pub fn push(image: &mut [u8], s: State, pc: ByteAddr, flag: bool, v: u32) -> Answer
+// How a push goes on.
+pub enum Onward {
+    Next,
+    NextFlagged,
+    Jump(ByteAddr),
+}
+
+// Word sp - 1 becomes v.
+pub fn push(image: &mut [u8], s: State, onward: Onward, v: u32) -> Way
     requires { ⌜ Ready (now image) s ⌝ }
-    ensures { λ r. ⌜ Carried (now (image .entry)) s (doing (now (image .entry)) s (pushes (state (pc .0) (s .sp .0 - 1) flag) v)) r (now (image .exit)) ⌝ }
+    ensures { λ r. ⌜ Carried (now (image .entry)) s (doing (now (image .entry)) s (pushes (onwardFrom s onward (s .sp .0 - 1)) v)) r (now (image .exit)) ⌝ }
 {
     let at = s.sp.0;
     if at == 0 {
-        return Answer::Refused(s, Outcome::Stack);
+        return Way::Refuse(Outcome::Stack);
     }
     let sp = WordIndex(at - 1);
     memory::write_word(image, sp, v);
-    Answer::Done(State { pc, sp, flag })
+    match onward {
+        Onward::Next => Way::Next(sp),
+        Onward::NextFlagged => Way::NextFlagged(sp),
+        Onward::Jump(pc) => Way::Jump(pc, sp),
+    }
 }
 
-pub fn pushsp(image: &mut [u8], s: State) -> Answer
+pub fn pushsp(image: &mut [u8], s: State) -> Way
     requires { ⌜ Ready (now image) s ⌝ }
     ensures { λ r. ⌜ Carried (now (image .entry)) s (effectOf (now (image .entry)) s PUSHSP) r (now (image .exit)) ⌝ }
 {
-    push(image, s, s.following(), false, s.sp.byte().0)
+    push(image, s, Onward::Next, s.sp.byte().0)
 }
 
-pub fn pushpc(image: &mut [u8], s: State) -> Answer
+pub fn pushpc(image: &mut [u8], s: State) -> Way
     requires { ⌜ Ready (now image) s ⌝ }
     ensures { λ r. ⌜ Carried (now (image .entry)) s (effectOf (now (image .entry)) s PUSHPC) r (now (image .exit)) ⌝ }
 {
-    push(image, s, s.following(), false, s.pc.0)
+    push(image, s, Onward::Next, s.pc.0)
 }

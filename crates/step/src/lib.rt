@@ -3,13 +3,14 @@ use machine::Answer;
 use machine::Core;
 use machine::Outcome;
 use machine::State;
+use machine::Way;
 ghost use mathlib.Core.Path.{_≡_};
 ghost use Prim.Native.Nat.{_<_, _≤_};
 ghost use Rattle.machine.specs.declared.Core.the-variants.{Narrow};
 ghost use Rattle.machine.specs.State.{place};
 ghost use Rattle.machine.specs.Table.{effectOf, stepOf};
-ghost use Rattle.machine.specs.Instructions.{inverted, decode};
-ghost use Rattle.machine.specs.Inner.{Ready, Carried};
+ghost use Rattle.machine.specs.Instructions.{decode};
+ghost use Rattle.machine.specs.Inner.{Ready, Carried, Answered};
 ghost use Rattle.step.specs.Dispatched.{dispatched};
 
 // `dispatch` tells the bytes below this. From it on they are EMULATE, STORESP, LOADSP and IM.
@@ -22,28 +23,22 @@ fn dispatched(core: Core) -> u8
     }
 }
 
-fn inverted(byte: u8) -> u8
-    ensures { λ r. ⌜ r ≡ inverted byte ⌝ }
-{
-    (byte % 32 + 16) % 32
-}
-
-fn offset_or_emulate(image: &mut [u8], s: State, byte: u8) -> Answer
+fn offset_or_emulate(image: &mut [u8], s: State, byte: u8) -> Way
     requires { ⌜ Ready (now image) s ⌝ }
     requires { ⌜ (32 ≤ byte) × (byte < 128) ⌝ }
     ensures { λ r. ⌜ Carried (now (image .entry)) s (effectOf (now (image .entry)) s (decode Narrow byte)) r (now (image .exit)) ⌝ }
 {
     if 96 <= byte {
-        return stack_instructions::loadsp(image, s, inverted(byte));
+        return stack_instructions::loadsp(image, s, machine::inverted(byte));
     }
     if 64 <= byte {
-        return stack_instructions::storesp(image, s, inverted(byte));
+        return stack_instructions::storesp(image, s, machine::inverted(byte));
     }
     jump_instructions::emulate(image, s, byte - 32)
 }
 
 // The instruction that the byte is. IM comes first for speed.
-fn carry_out(core: Core, image: &mut [u8], s: State, byte: u8) -> Answer
+fn carry_out(core: Core, image: &mut [u8], s: State, byte: u8) -> Way
     requires { ⌜ Ready (now image) s ⌝ }
     ensures { λ r. ⌜ Carried (now (image .entry)) s (effectOf (now (image .entry)) s (decode core byte)) r (now (image .exit)) ⌝ }
 {
@@ -58,12 +53,12 @@ fn carry_out(core: Core, image: &mut [u8], s: State, byte: u8) -> Answer
 
 pub fn step(core: Core, image: &mut [u8], s: State) -> Answer
     requires { ⌜ Ready (now image) s ⌝ }
-    ensures { λ r. ⌜ Carried (now (image .entry)) s (stepOf core (place (now (image .entry)) s)) r (now (image .exit)) ⌝ }
+    ensures { λ r. ⌜ Answered (now (image .entry)) s (stepOf core (place (now (image .entry)) s)) r (now (image .exit)) ⌝ }
 {
     let pc = s.pc.0 as usize;
     if image.len() <= pc {
         return Answer::Refused(s, Outcome::Fetch);
     }
     let byte = image[pc];
-    carry_out(core, image, s, byte)
+    s.after(carry_out(core, image, s, byte))
 }

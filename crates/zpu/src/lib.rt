@@ -35,32 +35,30 @@ fn ended_by(answer: Answer, n: u32) -> Finish
     }
 }
 
-// One step more, of `limit` at most.
-fn counted(n: u32, limit: u32) -> u32
-    requires { ⌜ n < limit ⌝ }
-    ensures { λ r. ⌜ r ≡ n + 1 ⌝ }
-{
-    n + 1
-}
-
-// The steps in order, counted, to the first stop.
+// The steps in order, counted, to the first stop: one the careful way, which takes any byte and ends the run, and then as many as
+// the common instructions lead on, in turns. The careful one comes first so that a short run is done with it alone.
 fn run_from(core: Core, image: &mut [u8], start: State, limit: u32) -> Finish
     requires { ⌜ Ready (now image) start ⌝ }
     ensures { λ r. ⌜ handedBack r (now (image .exit)) ≡ runFrom core limit 0 (place (now (image .entry)) start) ⌝ }
 {
     let mut s = start;
-    let mut n: u32 = 0;
-    while n < limit {
+    let mut left = limit;
+    while 0 < left {
         let answer = step::step(core, image, s);
         let Answer::Done(next) = answer else {
-            return ended_by(answer, n);
+            return ended_by(answer, limit - left);
         };
         s = next;
-        n = counted(n, limit);
+        left -= 1;
+        if 0 < left {
+            let stand = stretch::stretch(core, image, s, left);
+            s = stand.state;
+            left = stand.left;
+        }
     }
     Finish {
         outcome: Outcome::Limit,
-        steps: n,
+        steps: limit,
         state: s,
     }
 }

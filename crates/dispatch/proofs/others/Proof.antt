@@ -14,11 +14,11 @@ others-spec =
     tie.close
     (tie.spec (λ c κs. search needs) (λ c κs. search needs) (λ c κs. search needs) (λ c κs. search needs)
     (λ c κs. search needs) (λ c κs. search needs) (λ c κs. search needs) (λ c κs. search needs) (λ c κs. search needs)
-    (λ c κs. search needs) (λ c κs. search needs) (λ c κs. search needs) (λ c κs. search needs)
-    (λ c. rw (c .before .match .keys1) (record { answer = cc; memory = refl })) (λ c. search needs)
+    (λ c κs. search needs) (λ c κs. search needs)
+    (λ c. rw (c .match .keys1) (record { way = cc; memory = refl })) (λ c. search needs)
     (λ c. rw (c .before .before .before .before .match .keys2) (c .before .before .pushsp .ensures)) (λ c. search needs)
     (λ c. rw (c .before .before .match .keys3) (c .poppc .ensures))
-    (λ c. rw (c .before .match .keys4) (record { answer = cc; memory = rw none-written })) (λ c. search needs)
+    (λ c. rw (c .match .keys4) (record { way = cc; memory = rw none-written })) (λ c. search needs)
     (λ c. rw (c .before .before .match .keys5) (c .popsp .ensures)) (λ c. search needs)
     (λ c. rw (c .before .before .before .before .match .keys6) (c .before .before .call .ensures)) (λ c. search needs)
     (λ c. rw (c .before .before .match .keys7) (c .eqbranch .ensures)) (λ c. search needs)
@@ -30,6 +30,6 @@ others-spec =
     (λ c. search needs)
     (λ c. rw (c .before .before .before .before .match .keys12) (c .before .before .callpcrel .ensures))
     (λ c. search needs)
-    (λ c. let b = c .before .before .before .before .before .before .args .byte in rw
-    (rest b (omega arith) (c .before .before .before .before .before .before .pre .1 .1)
+    (λ c. let b = c .before .before .before .before .before .before .before .args .byte in rw
+    (rest b (omega arith) (c .before .before .before .before .before .before .before .pre .1 .1)
     (none others b (c .before .before .before .before .match .rest))) (c .before .before .addsp-or-illegal .ensures)))

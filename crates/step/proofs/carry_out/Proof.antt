@@ -1,3 +1,5 @@
+use Prim.Native.Nat.{_-_, _%_}
+use mathlib.Core.Path.{_≡_}
 use native.Mathlib.Omega.{arith}
 use borrow.Author.Tests.{le-ltb}
 use Rattle.machine.specs.Instructions.{decode}
@@ -10,7 +12,8 @@ returns : tie.Need-returns
 unfolding decode
 returns c =
     let b = c .before .before .before .before .before .before .args .byte in
-    simp (le-ltb b 32 (omega arith), le-ltb b 64 (omega arith), le-ltb b 96 (omega arith), le-ltb b 128 (omega arith))
+    let low : b - 128 ≡ b % 128 = omega arith in
+    simp (le-ltb b 32 (omega arith), le-ltb b 64 (omega arith), le-ltb b 96 (omega arith), le-ltb b 128 (omega arith), low)
     (c .before .before .im .ensures)
 
 below-64-requires : tie.Need-below-64-requires

@@ -19,7 +19,7 @@ returns-3 : tie.Need-returns-3
 unfolding effectOf row
 returns-3 c =
     let at = c .before .before .before .before .before .before .before in
-    let a = at .before .before .before .before .before .before .before .before .args in
+    let a = at .before .before .before .before .before .before .before .args in
     let m = a .image .now in
     rw (lt-ltb (word m (a .s .sp .0)) (length m) (omega arith)) (top-puts _ (omega arith) (cc) _ (cc))
 
@@ -29,4 +29,4 @@ load-spec =
     tie.close
     (tie.spec (λ c κs. search needs) (λ c. search needs) (λ c. top-past _ (omega arith)) (λ c κs. search needs)
     (λ c. search needs) (λ c. search needs) returns-2 (λ c κs. search needs) (λ c κs. search needs)
-    (λ c κs. search needs) (λ c. search needs) returns-3)
+    (λ c. search needs) returns-3)

@@ -10,5 +10,5 @@ unfolding effectOf row
 binary-spec =
     tie.close
     (tie.spec (λ c. search needs) (λ c κs. search needs) (λ c. search needs) (λ c. offset-past 1 _ (omega arith))
-    (λ c κs. search needs) (λ c κs. search needs) (λ c κs. search needs) (λ c κs. search needs) (λ c κs. search needs)
-    (λ c. search needs) (λ c. offset-puts 1 _ (omega arith) (cc) _ _ (omega arith) (cc)))
+    (λ c κs. search needs) (λ c κs. search needs) (λ c κs. search needs) (λ c κs. search needs) (λ c. search needs)
+    (λ c. offset-puts 1 _ (omega arith) (cc) _ _ (omega arith) (cc)))

@@ -17,7 +17,7 @@ returns-3 : tie.Need-returns-3
 unfolding effectOf row
 returns-3 c =
     let at = c .before .before .before .before .before .before .before .before in
-    let a = at .before .before .before .before .before .before .before .before .before .args in
+    let a = at .before .before .before .before .before .before .before .before .args in
     rw (lt-ltb 0 (word (a .image .now) (a .s .sp .0)) (omega arith))
     (offset-puts 1 _ (omega arith) (cc) _ _ (omega arith) (cc))
 
@@ -27,4 +27,4 @@ division-spec =
     tie.close
     (tie.spec (λ c. search needs) (λ c κs. search needs) (λ c. search needs) (λ c. offset-past 1 _ (omega arith))
     (λ c κs. search needs) (λ c. search needs) returns-2 (λ c κs. search needs) (λ c κs. search needs)
-    (λ c κs. search needs) (λ c κs. search needs) (λ c. search needs) returns-3)
+    (λ c κs. search needs) (λ c. search needs) returns-3)

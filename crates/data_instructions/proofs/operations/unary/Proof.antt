@@ -10,5 +10,5 @@ unfolding effectOf row
 unary-spec =
     tie.close
     (tie.spec (λ c κs. search needs) (λ c. search needs) (λ c. top-past _ (omega arith)) (λ c κs. search needs)
-    (λ c κs. search needs) (λ c κs. search needs) (λ c κs. search needs) (λ c. search needs)
+    (λ c κs. search needs) (λ c κs. search needs) (λ c. search needs)
     (λ c. top-puts _ (omega arith) (cc) _ (cc)))

@@ -11,7 +11,7 @@ use Rattle.data_instructions.proofs.stores.store.Tie as tie
 returns-2 : tie.Need-returns-2
 unfolding effectOf row
 returns-2 c =
-    let a = c .before .before .before .before .before .before .before .before .before .args in
+    let a = c .before .before .before .before .before .before .before .before .args in
     let m = a .image .now in
     offset-fails 1 _ (omega arith) (rw (le-ltb (word m (a .s .sp .0)) (length m) (omega arith)))
 
@@ -19,7 +19,7 @@ returns-3 : tie.Need-returns-3
 unfolding effectOf row
 returns-3 c =
     let at = c .before .before .before .before .before .before .before in
-    let a = at .before .before .before .before .before .before .before .before .args in
+    let a = at .before .before .before .before .before .before .before .args in
     let m = a .image .now in
     let written = rw (
       c .before .before .before .before .before .before .before .read-word .ensures,
@@ -32,5 +32,5 @@ unfolding effectOf row
 store-spec =
     tie.close
     (tie.spec (λ c κs. search needs) (λ c. search needs) (λ c. search needs) (λ c. offset-past 1 _ (omega arith))
-    (λ c. search needs) (λ c κs. search needs) (λ c κs. search needs) (λ c. search needs) (λ c. search needs) returns-2
+    (λ c. search needs) (λ c κs. search needs) (λ c. search needs) (λ c. search needs) returns-2
     (λ c. search needs) (λ c κs. search needs) (λ c κs. search needs) (λ c. search needs) returns-3)

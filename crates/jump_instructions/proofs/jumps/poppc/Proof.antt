@@ -9,4 +9,4 @@ pub poppc-spec : {M : Type 1} → statement M
 unfolding effectOf row
 poppc-spec =
     tie.close (tie.spec (λ c κs. search needs) (λ c. top-past _ (omega arith)) (λ c κs. search needs) (λ c. search needs)
-    (λ c κs. search needs) (λ c. top-goes _ (omega arith) (cc)))
+    (λ c. top-goes _ (omega arith) (cc)))

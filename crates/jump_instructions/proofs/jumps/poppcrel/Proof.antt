@@ -10,4 +10,4 @@ unfolding effectOf row
 poppcrel-spec =
     tie.close
     (tie.spec (λ c κs. search needs) (λ c. top-past _ (omega arith)) (λ c κs. search needs) (λ c κs. search needs)
-    (λ c. search needs) (λ c κs. search needs) (λ c. top-goes _ (omega arith) (cc)))
+    (λ c. search needs) (λ c. top-goes _ (omega arith) (cc)))

@@ -15,11 +15,11 @@ returns c =
 returns-2 : tie.Need-returns-2
 unfolding effectOf row
 returns-2 c =
-    let a = c .before .before .before .before .before .before .before .before .before .before .before .before .before in
+    let a = c .before .before .before .before .before .before .before .before .before .before .before .before in
     rw (chosen (a .args .s .flag) (a .pre .1) _ _) (top-puts _ (omega arith) (cc) _ (cc))
 
 pub continued-spec : {M : Type 1} → statement M
 continued-spec =
     tie.close
     (tie.spec (λ c κs. search needs) (λ c. search needs) returns (λ c κs. search needs) (λ c κs. search needs)
-    (λ c κs. search needs) (λ c κs. search needs) (λ c. search needs) returns-2)
+    (λ c κs. search needs) (λ c. search needs) returns-2)

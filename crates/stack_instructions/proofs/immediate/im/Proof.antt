@@ -7,12 +7,12 @@ use Rattle.stack_instructions.proofs.immediate.im.Tie as tie
 returns-2 : tie.Need-returns-2
 unfolding effectOf row
 returns-2 c =
-    let a = c .before .before .before .before .before .before .before .before in
-    rw (left-out (a .args .s .flag) (c .before .before .before .before .before .before .if1 .left) _ _)
-    (record { answer = cc; memory = cc })
+    let a = c .before .before .before .before .before .before .before in
+    rw (left-out (a .args .s .flag) (c .before .before .before .before .before .if1 .left) _ _)
+    (record { way = cc; memory = cc })
 
 pub im-spec : {M : Type 1} → statement M
 im-spec =
     tie.close
-    (tie.spec (λ c. search needs) (λ c κs. search needs) (λ c κs. search needs) (λ c κs. search needs)
-    (λ c κs. search needs) (λ c. search needs) (λ c. search needs) (λ c. search needs) returns-2)
+    (tie.spec (λ c κs. search needs) (λ c κs. search needs) (λ c κs. search needs) (λ c. search needs) (λ c. search needs)
+    (λ c. search needs) returns-2)

@@ -8,8 +8,8 @@ use Rattle.stack_instructions.proofs.offsets.loadsp.Tie as tie
 returns-2 : tie.Need-returns-2
 unfolding effectOf row
 returns-2 c =
-    let a = c .before .before .before .before .before .before .before .before .before .before .before .before .before .args in
-    word-there (a .n) _ (omega arith) (record { answer = cc; memory = cc })
+    let a = c .before .before .before .before .before .before .before .before .before .before .before .before .args in
+    word-there (a .n) _ (omega arith) (record { way = cc; memory = cc })
 
 pub loadsp-spec : {M : Type 1} → statement M
 unfolding effectOf row
@@ -17,4 +17,4 @@ loadsp-spec =
     tie.close
     (tie.spec (λ c. search needs) (λ c κs. search needs) (λ c. search needs)
     (λ c. word-past (c .before .before .before .before .before .before .args .n) _ (omega arith)) (λ c κs. search needs)
-    (λ c κs. search needs) (λ c κs. search needs) (λ c. search needs) returns-2)
+    (λ c κs. search needs) (λ c. search needs) returns-2)

@@ -19,7 +19,7 @@ returns-2 c =
 returns-3 : tie.Need-returns-3
 unfolding effectOf row
 returns-3 c =
-    let a = c .before .before .before .before .before .before .before .args in
+    let a = c .before .before .before .before .before .before .args in
     let m = a .image .now in
     rw (le-leb (word m (a .s .sp .0) / 4) (length m / 4) (omega arith)) (top-goes _ (omega arith) (cc))
 
@@ -28,4 +28,4 @@ unfolding effectOf row
 popsp-spec =
     tie.close
     (tie.spec (λ c κs. search needs) (λ c. top-past _ (omega arith)) (λ c κs. search needs) (λ c κs. search needs)
-    returns-2 (λ c κs. search needs) returns-3)
+    returns-2 returns-3)

@@ -6,5 +6,5 @@ use Rattle.stack_instructions.proofs.pushes.pushsp.Tie as tie
 pub pushsp-spec : {M : Type 1} → statement M
 unfolding effectOf row
 pushsp-spec =
-    tie.close (tie.spec (λ c κs. search needs) (λ c κs. search needs) (λ c κs. search needs) (λ c. search needs)
-    (λ c. record { answer = cc; memory = cc }))
+    tie.close (tie.spec (λ c κs. search needs) (λ c κs. search needs) (λ c. search needs)
+    (λ c. record { way = cc; memory = cc }))

@@ -1,0 +1,16 @@
+-- What `common` promises.
+use Prim.Native.Nat.{ℕ}
+use mathlib.Core.Path.{_≡_}
+use mathlib.Core.Bool.{Bool, false}
+use mathlib.Core.List.{List}
+use mathlib.Core.Logic.{_⊎_}
+use Rattle.machine.specs.declared.State.{State}
+use Rattle.machine.specs.declared.Way.{Way}
+use Rattle.machine.specs.declared.Way.the-variants.{Refuse}
+use Rattle.machine.specs.declared.Outcome.the-variants.{Limit}
+use Rattle.machine.specs.Effects.{Effect}
+use Rattle.machine.specs.Inner.{Carried}
+
+-- e was carried out, or nothing was done and the way is LIMIT: so it is wherever the run is to pause
+abbrev pub Tried : List ℕ → State → Effect → Bool → Way → List ℕ → Type 0
+Tried m s e pause r m′ = ((r ≡ Refuse Limit) × (m′ ≡ m)) ⊎ ((pause ≡ false) × Carried m s e r m′)

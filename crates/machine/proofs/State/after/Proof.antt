@@ -1,0 +1,12 @@
+use borrow.Author.Needs.{needs}
+use Rattle.machine.proofs.State.after.Statement.{statement}
+use Rattle.machine.proofs.State.after.Tie as tie
+
+pub after-spec : {M : Type 1} → statement M
+after-spec =
+    tie.close
+    (tie.spec (λ c. search needs) (λ c κs. search needs) (λ c. search needs) (λ c κs. search needs) (λ c. search needs)
+    (λ c κs. search needs) (λ c. search needs) (λ c κs. search needs) (λ c. search needs)
+    (λ c. rw (c .before .before .way .given .1) (cc)) (λ c. rw (c .before .before .way2 .given .1) (cc))
+    (λ c. rw (c .before .before .way3 .given .1) (cc))
+    (λ c. rw (c .before .enum-told .given .1) (cc)) (λ c. rw (c .before .way4 .given .1) (cc)))
