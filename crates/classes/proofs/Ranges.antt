@@ -10,7 +10,7 @@ use borrow.Author.Tests.{lt-ltb, le-ltb, leb-true, ltb-true}
 use Rattle.memory.proofs.Tests.{both, every}
 use Rattle.machine.specs.declared.Core.the-variants.{Narrow, Wide}
 use Rattle.machine.specs.Instructions.{below32, below64, decode}
-use Rattle.classes.specs.declared.Class.the-variants.{Im, Loadsp, Storesp, Addsp, Sub, Call, Neqbranch, Short}
+use Rattle.classes.specs.declared.Class.the-variants.{Im, Loadsp, Storesp, Addsp, Sub, Call, Neqbranch, Emulate}
 use Rattle.classes.specs.Classes.{Agrees}
 
 -- what an arm knows that lists k and ks
@@ -62,10 +62,10 @@ module _ {b : ℕ} where
   unfolding decode below32
   addsp h core = simp (lt-ltb b 32 (h .1), le-ltb b 16 (h .0))
 
-  pub short : (32 ≤ b) × (b < 64) → Agrees Short b
+  pub emulate : (32 ≤ b) × (b < 64) → Agrees Emulate b
   unfolding decode below64
-  short h Narrow = let low : b - 32 ≡ b % 32 = omega arith in simp (le-ltb b 32 (h .0), lt-ltb b 64 (h .1), low)
-  short h Wide = tt
+  emulate h Narrow = let low : b - 32 ≡ b % 32 = omega arith in simp (le-ltb b 32 (h .0), lt-ltb b 64 (h .1), low)
+  emulate h Wide = tt
 
   pub sub : b ≡ 49 → Agrees Sub b
   unfolding decode below64

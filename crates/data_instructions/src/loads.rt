@@ -11,7 +11,7 @@ ghost use lib.ListN.{length};
 ghost use Rattle.memory.specs.Memory.{getBytes};
 ghost use Rattle.machine.specs.Table.{size, aligned, effectOf};
 ghost use Rattle.machine.specs.Instructions.{Instr.load};
-ghost use Rattle.machine.specs.Inner.{Ready, Carried};
+ghost use Rattle.machine.specs.Inner.{Ready, Carried, answered};
 
 fn read(image: &[u8], w: Width, a: ByteAddr) -> u32
     requires { ⌜ (a .0 < length (now image)) × (length (now image) ≤ 65536) × (length (now image) % 4 ≡ 0) ⌝ }
@@ -26,7 +26,7 @@ fn read(image: &[u8], w: Width, a: ByteAddr) -> u32
 
 pub fn load(image: &mut [u8], s: State, w: Width) -> Way
     requires { ⌜ Ready (now image) s ⌝ }
-    ensures { λ r. ⌜ Carried (now (image .entry)) s (effectOf (now (image .entry)) s (load w)) r (now (image .exit)) ⌝ }
+    ensures { λ r. ⌜ Carried (now (image .entry)) s (effectOf (now (image .entry)) s (load w)) (answered s r) (now (image .exit)) ⌝ }
 {
     let sp = s.sp.0;
     if memory::words(image).0 <= sp {

@@ -8,11 +8,11 @@ use machine::Way;
 use memory::WordIndex;
 ghost use Rattle.machine.specs.Table.{effectOf};
 ghost use Rattle.machine.specs.Instructions.{Instr.unary, Instr.binary, Instr.division};
-ghost use Rattle.machine.specs.Inner.{Ready, Carried};
+ghost use Rattle.machine.specs.Inner.{Ready, Carried, answered};
 
 pub fn unary(image: &mut [u8], s: State, op: UnOp) -> Way
     requires { ⌜ Ready (now image) s ⌝ }
-    ensures { λ r. ⌜ Carried (now (image .entry)) s (effectOf (now (image .entry)) s (unary op)) r (now (image .exit)) ⌝ }
+    ensures { λ r. ⌜ Carried (now (image .entry)) s (effectOf (now (image .entry)) s (unary op)) (answered s r) (now (image .exit)) ⌝ }
 {
     let sp = s.sp.0;
     if memory::words(image).0 <= sp {
@@ -25,7 +25,7 @@ pub fn unary(image: &mut [u8], s: State, op: UnOp) -> Way
 
 pub fn binary(image: &mut [u8], s: State, op: BinOp) -> Way
     requires { ⌜ Ready (now image) s ⌝ }
-    ensures { λ r. ⌜ Carried (now (image .entry)) s (effectOf (now (image .entry)) s (binary op)) r (now (image .exit)) ⌝ }
+    ensures { λ r. ⌜ Carried (now (image .entry)) s (effectOf (now (image .entry)) s (binary op)) (answered s r) (now (image .exit)) ⌝ }
 {
     let second = s.sp.0 + 1;
     if memory::words(image).0 <= second {
@@ -39,7 +39,7 @@ pub fn binary(image: &mut [u8], s: State, op: BinOp) -> Way
 
 pub fn division(image: &mut [u8], s: State, op: DivOp) -> Way
     requires { ⌜ Ready (now image) s ⌝ }
-    ensures { λ r. ⌜ Carried (now (image .entry)) s (effectOf (now (image .entry)) s (division op)) r (now (image .exit)) ⌝ }
+    ensures { λ r. ⌜ Carried (now (image .entry)) s (effectOf (now (image .entry)) s (division op)) (answered s r) (now (image .exit)) ⌝ }
 {
     let second = s.sp.0 + 1;
     if memory::words(image).0 <= second {

@@ -13,13 +13,13 @@ ghost use lib.Dec.{eqb};
 ghost use Rattle.machine.specs.declared.Core.the-variants.{Wide};
 ghost use Rattle.machine.specs.Table.{effectOf};
 ghost use Rattle.machine.specs.Instructions.{Instr.ADDSP, Instr.ILLEGAL, decode, among};
-ghost use Rattle.machine.specs.Inner.{Ready, Carried};
+ghost use Rattle.machine.specs.Inner.{Ready, Carried, answered};
 ghost use Rattle.dispatch.specs.Families.{families};
 
 // ADDSP is bytes 16 to 31.
 fn addsp_or_illegal(image: &mut [u8], s: State, byte: u8) -> Way
     requires { ⌜ Ready (now image) s ⌝ }
-    ensures { λ r. ⌜ Carried (now (image .entry)) s (effectOf (now (image .entry)) s (cond (eqb (byte / 16) 1) (ADDSP (byte % 16)) ILLEGAL)) r (now (image .exit)) ⌝ }
+    ensures { λ r. ⌜ Carried (now (image .entry)) s (effectOf (now (image .entry)) s (cond (eqb (byte / 16) 1) (ADDSP (byte % 16)) ILLEGAL)) (answered s r) (now (image .exit)) ⌝ }
 {
     if byte / 16 == 1 {
         return stack_instructions::addsp(image, s, byte % 16);
@@ -31,7 +31,7 @@ fn addsp_or_illegal(image: &mut [u8], s: State, byte: u8) -> Way
 fn others(image: &mut [u8], s: State, byte: u8) -> Way
     requires { ⌜ Ready (now image) s ⌝ }
     requires { ⌜ (byte < 64) × (among byte families ≡ false) ⌝ }
-    ensures { λ r. ⌜ Carried (now (image .entry)) s (effectOf (now (image .entry)) s (decode Wide byte)) r (now (image .exit)) ⌝ }
+    ensures { λ r. ⌜ Carried (now (image .entry)) s (effectOf (now (image .entry)) s (decode Wide byte)) (answered s r) (now (image .exit)) ⌝ }
 {
     let sp = s.sp;
     match byte {
@@ -55,7 +55,7 @@ fn others(image: &mut [u8], s: State, byte: u8) -> Way
 pub fn below_64(image: &mut [u8], s: State, byte: u8) -> Way
     requires { ⌜ Ready (now image) s ⌝ }
     requires { ⌜ byte < 64 ⌝ }
-    ensures { λ r. ⌜ Carried (now (image .entry)) s (effectOf (now (image .entry)) s (decode Wide byte)) r (now (image .exit)) ⌝ }
+    ensures { λ r. ⌜ Carried (now (image .entry)) s (effectOf (now (image .entry)) s (decode Wide byte)) (answered s r) (now (image .exit)) ⌝ }
 {
     match byte {
         5 => data_instructions::binary(image, s, BinOp::Add),

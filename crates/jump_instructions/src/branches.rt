@@ -6,11 +6,11 @@ use machine::Way;
 use memory::WordIndex;
 ghost use Rattle.machine.specs.Table.{effectOf};
 ghost use Rattle.machine.specs.Instructions.{Instr.NEQBRANCH, Instr.EQBRANCH};
-ghost use Rattle.machine.specs.Inner.{Ready, Carried};
+ghost use Rattle.machine.specs.Inner.{Ready, Carried, answered};
 
 pub fn neqbranch(image: &[u8], s: State) -> Way
     requires { ⌜ Ready (now image) s ⌝ }
-    ensures { λ r. ⌜ Carried (now (image .entry)) s (effectOf (now (image .entry)) s NEQBRANCH) r (now (image .entry)) ⌝ }
+    ensures { λ r. ⌜ Carried (now (image .entry)) s (effectOf (now (image .entry)) s NEQBRANCH) (answered s r) (now (image .entry)) ⌝ }
 {
     let sp = s.sp.0;
     if memory::words(image).0 <= sp + 1 {
@@ -26,7 +26,7 @@ pub fn neqbranch(image: &[u8], s: State) -> Way
 
 pub fn eqbranch(image: &[u8], s: State) -> Way
     requires { ⌜ Ready (now image) s ⌝ }
-    ensures { λ r. ⌜ Carried (now (image .entry)) s (effectOf (now (image .entry)) s EQBRANCH) r (now (image .entry)) ⌝ }
+    ensures { λ r. ⌜ Carried (now (image .entry)) s (effectOf (now (image .entry)) s EQBRANCH) (answered s r) (now (image .entry)) ⌝ }
 {
     let sp = s.sp.0;
     if memory::words(image).0 <= sp + 1 {

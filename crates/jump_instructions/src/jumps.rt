@@ -4,13 +4,13 @@ use machine::State;
 use machine::Way;
 use memory::ByteAddr;
 use memory::WordIndex;
-use stack_instructions::Onward;
+use stack_instructions::Then;
 ghost use mathlib.Core.Path.{_≡_};
 ghost use Prim.Native.Nat.{_+_, _<_};
 ghost use Rattle.arithmetic.specs.Words.{wrap};
 ghost use Rattle.machine.specs.Table.{effectOf};
 ghost use Rattle.machine.specs.Instructions.{Instr.POPPC, Instr.POPPCREL, Instr.EMULATE};
-ghost use Rattle.machine.specs.Inner.{Ready, Carried};
+ghost use Rattle.machine.specs.Inner.{Ready, Carried, answered};
 
 // The instruction's own address plus a: a branch backwards adds a large number and wraps.
 pub(crate) fn relative(s: State, a: u32) -> ByteAddr
@@ -21,7 +21,7 @@ pub(crate) fn relative(s: State, a: u32) -> ByteAddr
 
 pub fn poppc(image: &[u8], s: State) -> Way
     requires { ⌜ Ready (now image) s ⌝ }
-    ensures { λ r. ⌜ Carried (now (image .entry)) s (effectOf (now (image .entry)) s POPPC) r (now (image .entry)) ⌝ }
+    ensures { λ r. ⌜ Carried (now (image .entry)) s (effectOf (now (image .entry)) s POPPC) (answered s r) (now (image .entry)) ⌝ }
 {
     let sp = s.sp.0;
     if memory::words(image).0 <= sp {
@@ -33,7 +33,7 @@ pub fn poppc(image: &[u8], s: State) -> Way
 
 pub fn poppcrel(image: &[u8], s: State) -> Way
     requires { ⌜ Ready (now image) s ⌝ }
-    ensures { λ r. ⌜ Carried (now (image .entry)) s (effectOf (now (image .entry)) s POPPCREL) r (now (image .entry)) ⌝ }
+    ensures { λ r. ⌜ Carried (now (image .entry)) s (effectOf (now (image .entry)) s POPPCREL) (answered s r) (now (image .entry)) ⌝ }
 {
     let sp = s.sp.0;
     if memory::words(image).0 <= sp {
@@ -47,12 +47,12 @@ pub fn poppcrel(image: &[u8], s: State) -> Way
 pub fn emulate(image: &mut [u8], s: State, k: u8) -> Way
     requires { ⌜ Ready (now image) s ⌝ }
     requires { ⌜ k < 32 ⌝ }
-    ensures { λ r. ⌜ Carried (now (image .entry)) s (effectOf (now (image .entry)) s (EMULATE k)) r (now (image .exit)) ⌝ }
+    ensures { λ r. ⌜ Carried (now (image .entry)) s (effectOf (now (image .entry)) s (EMULATE k)) (answered s r) (now (image .exit)) ⌝ }
 {
     stack_instructions::push(
         image,
         s,
-        Onward::Jump(ByteAddr(32 * (k as u32))),
+        Then::Jump(ByteAddr(32 * (k as u32))),
         s.following().0,
     )
 }

@@ -21,7 +21,7 @@ use Rattle.machine.specs.State.{Place, place}
 use Rattle.machine.specs.Effects.{Effect, Effect.refuse, Effect.stop, Effect.go, memoryAfter}
 use Rattle.machine.specs.Run.{Ran, onward, steps, ended, after, runFrom, run, handedBack}
 use Rattle.machine.specs.Table.{stepOf}
-use Rattle.machine.specs.Inner.{answerOf, Answered, finishOf}
+use Rattle.machine.specs.Inner.{answerOf, Carried, finishOf}
 use Rattle.laws.proofs.Steps.{one-step, steps-add, run-follows}
 
 -- a step that is done goes on
@@ -45,7 +45,7 @@ module _ (core : Core) (n : ℕ) (p : Place) {m : List ℕ} {s : State} (so-far 
   unfolding runFrom
   spent = ap (λ (x : ℕ). runFrom core x 0 p) (sym (add-zero n)) ∙ run-follows core n 0 0 p (place m s) so-far ∙ rw zero-add
 
-  module _ {r : Answer} {m′ : List ℕ} (done : Answered m s (stepOf core (place m s)) r m′) where
+  module _ {r : Answer} {m′ : List ℕ} (done : Carried m s (stepOf core (place m s)) r m′) where
     pub one-more : {t : State} → r ≡ Done t → steps core (n + 1) p ≡ some (place m′ t)
     one-more {t = t} h =
         steps-add core n 1 p (place m s) so-far

@@ -1,2 +1,1 @@
 pub mod Stack
-pub mod Ways

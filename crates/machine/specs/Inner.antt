@@ -19,35 +19,24 @@ pub record Ready (m : List ℕ) (s : State) : Type 0 where
   pub whole : length m % 4 ≡ 0
   pub sp-inside : s .sp .0 ≤ length m / 4
 
--- an effect but for what it writes
-abbrev pub unwritten : Effect → Effect
-unwritten (refuse o) = refuse o
-unwritten (stop t) = stop t
-unwritten (go t a k v) = go t 0 0 0
-
--- the effect, but for what it writes, that a way from s tells
-abbrev pub told : State → Way → Effect
-told s (Next sp) = go (next s (sp .0)) 0 0 0
-told s (NextFlagged sp) = go (nextFlagged s (sp .0)) 0 0 0
-told s (Jump pc sp) = go (jump s (pc .0) (sp .0)) 0 0 0
-told s Stop = stop (next s (s .sp .0))
-told s (Refuse o) = refuse o
-
--- e was carried out from m and s: r is the way, and m′ is memory then
-pub record Carried (m : List ℕ) (s : State) (e : Effect) (r : Way) (m′ : List ℕ) : Type 0 where
-  pub way : told s r ≡ unwritten e
-  pub memory : m′ ≡ memoryAfter m e
-
 -- what a step from s answers
 abbrev pub answerOf : State → Effect → Answer
 answerOf s (refuse o) = Refused s o
 answerOf s (stop t) = Broke t
 answerOf s (go t a k v) = Done t
 
--- a step of the effect e was done from m and s: r was answered, and m′ is memory then
-pub record Answered (m : List ℕ) (s : State) (e : Effect) (r : Answer) (m′ : List ℕ) : Type 0 where
+-- e was carried out from m and s: r was answered, and m′ is memory then
+pub record Carried (m : List ℕ) (s : State) (e : Effect) (r : Answer) (m′ : List ℕ) : Type 0 where
   pub answer : r ≡ answerOf s e
   pub memory : m′ ≡ memoryAfter m e
+
+-- the answer of a step from s whose instruction goes by a way
+abbrev pub answered : State → Way → Answer
+answered s (Next sp) = Done (next s (sp .0))
+answered s (NextFlagged sp) = Done (nextFlagged s (sp .0))
+answered s (Jump pc sp) = Done (jump s (pc .0) (sp .0))
+answered s Stop = Broke (next s (s .sp .0))
+answered s (Refuse o) = Refused s o
 
 -- how a run would end by an answer, n steps before it; `Done` ends none
 abbrev pub finishOf : Answer → ℕ → Finish

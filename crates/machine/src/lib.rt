@@ -1,4 +1,4 @@
-// What the machine is made of: its two cores, its state, the outcomes of a run and the answer of a step.
+// What the machine is made of: its two cores, its state, the outcomes of a run, the way of an instruction and the answer of a step.
 use memory::ByteAddr;
 use memory::WordIndex;
 ghost use mathlib.Core.Path.{_≡_};
@@ -6,7 +6,7 @@ ghost use Prim.Native.Nat.{_+_};
 ghost use Rattle.arithmetic.specs.Words.{wrap};
 ghost use Rattle.machine.specs.State.{next, nextFlagged, jump};
 ghost use Rattle.machine.specs.Instructions.{inverted};
-ghost use Rattle.machine.specs.Inner.{answerOf, told};
+ghost use Rattle.machine.specs.Inner.{answered};
 
 pub enum Core {
     Narrow,
@@ -76,9 +76,9 @@ impl State {
         }
     }
 
-    // What a step that an instruction leaves by `way` answers.
-    pub fn after(self, way: Way) -> Answer
-        ensures { λ r. ⌜ r ≡ answerOf self (told self way) ⌝ }
+    // What a step answers whose instruction goes by `way`.
+    pub fn answer(self, way: Way) -> Answer
+        ensures { λ r. ⌜ r ≡ answered self way ⌝ }
     {
         let sp = self.sp;
         match way {
@@ -91,7 +91,7 @@ impl State {
     }
 }
 
-// How an instruction leaves the state: by which of its methods and with which stack pointer, by BREAK, or not, and why.
+// How an instruction goes: by which of the state's methods and with which stack pointer, by BREAK, or not at all, and why.
 pub enum Way {
     Next(WordIndex),
     NextFlagged(WordIndex),

@@ -1,6 +1,6 @@
 // IM: with the flag clear the seven bits are pushed, sign-extended; with it set they are joined to the top.
 use crate::pushes;
-use crate::pushes::Onward;
+use crate::pushes::Then;
 use machine::Outcome;
 use machine::State;
 use machine::Way;
@@ -11,7 +11,7 @@ ghost use Prim.Native.Nat.{_+_, _*_, _%_, _<_};
 ghost use Rattle.arithmetic.specs.Words.{wrap};
 ghost use Rattle.machine.specs.Table.{effectOf, extended};
 ghost use Rattle.machine.specs.Instructions.{Instr.IM};
-ghost use Rattle.machine.specs.Inner.{Ready, Carried};
+ghost use Rattle.machine.specs.Inner.{Ready, Carried, answered};
 
 // Seven bits sign-extended.
 fn extended(v: u32) -> u32
@@ -30,7 +30,7 @@ fn joined(a: u32, v: u32) -> u32
 fn continued(image: &mut [u8], s: State, v: u32) -> Way
     requires { ⌜ Ready (now image) s ⌝ }
     requires { ⌜ s .flag ≡ true ⌝ }
-    ensures { λ r. ⌜ Carried (now (image .entry)) s (effectOf (now (image .entry)) s (IM v)) r (now (image .exit)) ⌝ }
+    ensures { λ r. ⌜ Carried (now (image .entry)) s (effectOf (now (image .entry)) s (IM v)) (answered s r) (now (image .exit)) ⌝ }
 {
     let sp = s.sp.0;
     if memory::words(image).0 <= sp {
@@ -43,13 +43,13 @@ fn continued(image: &mut [u8], s: State, v: u32) -> Way
 
 pub fn im(image: &mut [u8], s: State, byte: u8) -> Way
     requires { ⌜ Ready (now image) s ⌝ }
-    ensures { λ r. ⌜ Carried (now (image .entry)) s (effectOf (now (image .entry)) s (IM (byte % 128))) r (now (image .exit)) ⌝ }
+    ensures { λ r. ⌜ Carried (now (image .entry)) s (effectOf (now (image .entry)) s (IM (byte % 128))) (answered s r) (now (image .exit)) ⌝ }
 {
     let v = byte as u32 % 128;
     let flag = s.flag;
     if flag {
         continued(image, s, v)
     } else {
-        pushes::push(image, s, Onward::NextFlagged, extended(v))
+        pushes::push(image, s, Then::NextFlagged, extended(v))
     }
 }

@@ -1,5 +1,5 @@
 // The instructions that move words of the stack or its pointer, each under its own name: the image is written in place, and the
-// answer is given by value.
+// way is given by value.
 mod immediate;
 mod offsets;
 mod pointer;
@@ -11,7 +11,7 @@ pub use offsets::loadsp;
 pub use offsets::storesp;
 pub use pointer::popsp;
 pub use pointer::pushspadd;
-pub use pushes::Onward;
+pub use pushes::Then;
 pub use pushes::push;
 pub use pushes::pushpc;
 pub use pushes::pushsp;

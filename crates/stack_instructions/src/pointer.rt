@@ -9,11 +9,11 @@ ghost use Prim.Native.Nat.{_+_, _*_, _≤_};
 ghost use Rattle.arithmetic.specs.Words.{wrap};
 ghost use Rattle.machine.specs.Table.{effectOf};
 ghost use Rattle.machine.specs.Instructions.{Instr.POPSP, Instr.PUSHSPADD};
-ghost use Rattle.machine.specs.Inner.{Ready, Carried};
+ghost use Rattle.machine.specs.Inner.{Ready, Carried, answered};
 
 pub fn popsp(image: &[u8], s: State) -> Way
     requires { ⌜ Ready (now image) s ⌝ }
-    ensures { λ r. ⌜ Carried (now (image .entry)) s (effectOf (now (image .entry)) s POPSP) r (now (image .entry)) ⌝ }
+    ensures { λ r. ⌜ Carried (now (image .entry)) s (effectOf (now (image .entry)) s POPSP) (answered s r) (now (image .entry)) ⌝ }
 {
     let sp = s.sp.0;
     let words = memory::words(image).0;
@@ -38,7 +38,7 @@ fn four_times(w: WordIndex, a: u32) -> u32
 
 pub fn pushspadd(image: &mut [u8], s: State) -> Way
     requires { ⌜ Ready (now image) s ⌝ }
-    ensures { λ r. ⌜ Carried (now (image .entry)) s (effectOf (now (image .entry)) s PUSHSPADD) r (now (image .exit)) ⌝ }
+    ensures { λ r. ⌜ Carried (now (image .entry)) s (effectOf (now (image .entry)) s PUSHSPADD) (answered s r) (now (image .exit)) ⌝ }
 {
     let sp = s.sp.0;
     if memory::words(image).0 <= sp {

@@ -7,20 +7,20 @@ use memory::WordIndex;
 ghost use Prim.Native.Nat.{_-_};
 ghost use Rattle.machine.specs.Table.{Act.pushes, doing, effectOf};
 ghost use Rattle.machine.specs.Instructions.{Instr.PUSHSP, Instr.PUSHPC};
-ghost use Rattle.machine.specs.Inner.{Ready, Carried};
-ghost use Rattle.stack_instructions.specs.Pushes.{onwardFrom};
+ghost use Rattle.machine.specs.Inner.{Ready, Carried, answered};
+ghost use Rattle.stack_instructions.specs.Pushes.{onTo};
 
 // How a push goes on.
-pub enum Onward {
+pub enum Then {
     Next,
     NextFlagged,
     Jump(ByteAddr),
 }
 
 // Word sp - 1 becomes v.
-pub fn push(image: &mut [u8], s: State, onward: Onward, v: u32) -> Way
+pub fn push(image: &mut [u8], s: State, then: Then, v: u32) -> Way
     requires { ⌜ Ready (now image) s ⌝ }
-    ensures { λ r. ⌜ Carried (now (image .entry)) s (doing (now (image .entry)) s (pushes (onwardFrom s onward (s .sp .0 - 1)) v)) r (now (image .exit)) ⌝ }
+    ensures { λ r. ⌜ Carried (now (image .entry)) s (doing (now (image .entry)) s (pushes (onTo s then (s .sp .0 - 1)) v)) (answered s r) (now (image .exit)) ⌝ }
 {
     let at = s.sp.0;
     if at == 0 {
@@ -28,23 +28,23 @@ pub fn push(image: &mut [u8], s: State, onward: Onward, v: u32) -> Way
     }
     let sp = WordIndex(at - 1);
     memory::write_word(image, sp, v);
-    match onward {
-        Onward::Next => Way::Next(sp),
-        Onward::NextFlagged => Way::NextFlagged(sp),
-        Onward::Jump(pc) => Way::Jump(pc, sp),
+    match then {
+        Then::Next => Way::Next(sp),
+        Then::NextFlagged => Way::NextFlagged(sp),
+        Then::Jump(pc) => Way::Jump(pc, sp),
     }
 }
 
 pub fn pushsp(image: &mut [u8], s: State) -> Way
     requires { ⌜ Ready (now image) s ⌝ }
-    ensures { λ r. ⌜ Carried (now (image .entry)) s (effectOf (now (image .entry)) s PUSHSP) r (now (image .exit)) ⌝ }
+    ensures { λ r. ⌜ Carried (now (image .entry)) s (effectOf (now (image .entry)) s PUSHSP) (answered s r) (now (image .exit)) ⌝ }
 {
-    push(image, s, Onward::Next, s.sp.byte().0)
+    push(image, s, Then::Next, s.sp.byte().0)
 }
 
 pub fn pushpc(image: &mut [u8], s: State) -> Way
     requires { ⌜ Ready (now image) s ⌝ }
-    ensures { λ r. ⌜ Carried (now (image .entry)) s (effectOf (now (image .entry)) s PUSHPC) r (now (image .exit)) ⌝ }
+    ensures { λ r. ⌜ Carried (now (image .entry)) s (effectOf (now (image .entry)) s PUSHPC) (answered s r) (now (image .exit)) ⌝ }
 {
-    push(image, s, Onward::Next, s.pc.0)
+    push(image, s, Then::Next, s.pc.0)
 }

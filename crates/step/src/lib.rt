@@ -10,7 +10,7 @@ ghost use Rattle.machine.specs.declared.Core.the-variants.{Narrow};
 ghost use Rattle.machine.specs.State.{place};
 ghost use Rattle.machine.specs.Table.{effectOf, stepOf};
 ghost use Rattle.machine.specs.Instructions.{decode};
-ghost use Rattle.machine.specs.Inner.{Ready, Carried, Answered};
+ghost use Rattle.machine.specs.Inner.{Ready, Carried, answered};
 ghost use Rattle.step.specs.Dispatched.{dispatched};
 
 // `dispatch` tells the bytes below this. From it on they are EMULATE, STORESP, LOADSP and IM.
@@ -26,7 +26,7 @@ fn dispatched(core: Core) -> u8
 fn offset_or_emulate(image: &mut [u8], s: State, byte: u8) -> Way
     requires { ⌜ Ready (now image) s ⌝ }
     requires { ⌜ (32 ≤ byte) × (byte < 128) ⌝ }
-    ensures { λ r. ⌜ Carried (now (image .entry)) s (effectOf (now (image .entry)) s (decode Narrow byte)) r (now (image .exit)) ⌝ }
+    ensures { λ r. ⌜ Carried (now (image .entry)) s (effectOf (now (image .entry)) s (decode Narrow byte)) (answered s r) (now (image .exit)) ⌝ }
 {
     if 96 <= byte {
         return stack_instructions::loadsp(image, s, machine::inverted(byte));
@@ -40,7 +40,7 @@ fn offset_or_emulate(image: &mut [u8], s: State, byte: u8) -> Way
 // The instruction that the byte is. IM comes first for speed.
 fn carry_out(core: Core, image: &mut [u8], s: State, byte: u8) -> Way
     requires { ⌜ Ready (now image) s ⌝ }
-    ensures { λ r. ⌜ Carried (now (image .entry)) s (effectOf (now (image .entry)) s (decode core byte)) r (now (image .exit)) ⌝ }
+    ensures { λ r. ⌜ Carried (now (image .entry)) s (effectOf (now (image .entry)) s (decode core byte)) (answered s r) (now (image .exit)) ⌝ }
 {
     if 128 <= byte {
         return stack_instructions::im(image, s, byte);
@@ -53,12 +53,12 @@ fn carry_out(core: Core, image: &mut [u8], s: State, byte: u8) -> Way
 
 pub fn step(core: Core, image: &mut [u8], s: State) -> Answer
     requires { ⌜ Ready (now image) s ⌝ }
-    ensures { λ r. ⌜ Answered (now (image .entry)) s (stepOf core (place (now (image .entry)) s)) r (now (image .exit)) ⌝ }
+    ensures { λ r. ⌜ Carried (now (image .entry)) s (stepOf core (place (now (image .entry)) s)) r (now (image .exit)) ⌝ }
 {
     let pc = s.pc.0 as usize;
     if image.len() <= pc {
         return Answer::Refused(s, Outcome::Fetch);
     }
     let byte = image[pc];
-    s.after(carry_out(core, image, s, byte))
+    s.answer(carry_out(core, image, s, byte))
 }

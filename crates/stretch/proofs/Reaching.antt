@@ -10,7 +10,7 @@ use Rattle.machine.specs.declared.Answer.the-variants.{Done}
 use Rattle.machine.specs.State.{Place, place}
 use Rattle.machine.specs.Table.{stepOf}
 use Rattle.machine.specs.Run.{steps}
-use Rattle.machine.specs.Inner.{Ready, Answered}
+use Rattle.machine.specs.Inner.{Ready, Carried}
 use Rattle.laws.proofs.Steps.{no-step, steps-add}
 use Rattle.laws.proofs.Kept.{done-in}
 use Rattle.laws.proofs.Turns.{one-more}
@@ -19,22 +19,22 @@ use Rattle.stretch.specs.Reaching.{Reaches}
 pub none-done : {core : Core} {l : ℕ} {p : Place} (l′ : ℕ) → l′ ≡ l → Reaches core l p l′ p
 none-done {core} {l} {p} l′ e =
     let z : l - l′ ≡ 0 = omega arith in
-    record { fewer = omega arith; by-steps = rw z (no-step core p) }
+    record { no-more = omega arith; by-steps = rw z (no-step core p) }
 
 pub joined : {core : Core} {l l′ l″ : ℕ} {p q r : Place} → Reaches core l p l′ q → Reaches core l′ q l″ r → Reaches core l p l″ r
 joined {core} {l} {l′} {l″} {p} {q} a b =
-    let f = a .fewer in
-    let g = b .fewer in
+    let f = a .no-more in
+    let g = b .no-more in
     let i : l - l″ ≡ (l - l′) + (l′ - l″) = omega arith in
-    record { fewer = omega arith; by-steps = rw i (steps-add core (l - l′) (l′ - l″) p q (a .by-steps) ∙ b .by-steps) }
+    record { no-more = omega arith; by-steps = rw i (steps-add core (l - l′) (l′ - l″) p q (a .by-steps) ∙ b .by-steps) }
 
-module _ (core : Core) {m m′ : List ℕ} {s t : State} (done : Answered m s (stepOf core (place m s)) (Done t) m′) where
+module _ (core : Core) {m m′ : List ℕ} {s t : State} (done : Carried m s (stepOf core (place m s)) (Done t) m′) where
   pub one-further : {l l′ : ℕ} {p : Place} → Reaches core l p l′ (place m s) → (more : ℕ) → more + 1 ≡ l′
       → Reaches core l p more (place m′ t)
   one-further {l} {l′} {p} a more k =
-      let f = a .fewer in
+      let f = a .no-more in
       let i : l - more ≡ l - l′ + 1 = omega arith in
-      record { fewer = omega arith; by-steps = rw i (one-more core (l - l′) p (a .by-steps) done refl) }
+      record { no-more = omega arith; by-steps = rw i (one-more core (l - l′) p (a .by-steps) done refl) }
 
   pub ready-on : Ready m s → length m′ ≡ length m → Ready m′ t
   ready-on r l =

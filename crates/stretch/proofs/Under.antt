@@ -14,16 +14,15 @@ use Rattle.machine.specs.declared.Core.{Core}
 use Rattle.machine.specs.declared.State.{State}
 use Rattle.machine.specs.declared.Way.{Way}
 use Rattle.machine.specs.declared.Way.the-variants.{Next, NextFlagged, Jump, Stop, Refuse}
-use Rattle.machine.specs.declared.Answer.the-variants.{Done}
+use Rattle.machine.specs.declared.Answer.the-variants.{Done, Refused}
 use Rattle.machine.specs.declared.Outcome.the-variants.{Limit}
 use Rattle.machine.specs.State.{Place, place, fetched}
 use Rattle.machine.specs.Instructions.{decode}
 use Rattle.machine.specs.Effects.{Effect, Effect.refuse, Effect.stop, Effect.go, memoryAfter}
 use Rattle.machine.specs.Table.{effectOf, stepOf}
-use Rattle.machine.specs.Inner.{Ready, unwritten, told, Carried, answerOf, Answered}
+use Rattle.machine.specs.Inner.{Ready, answerOf, Carried, answered}
 use Rattle.machine.proofs.Way
-use Rattle.machine.proofs.Ways.{answered}
-use Rattle.common.specs.Tried.{Tried}
+use Rattle.common_instructions.specs.Tried.{Tried}
 use Rattle.stretch.specs.Reaching.{Reaches}
 use Rattle.stretch.proofs.Reaching.{one-further, ready-on}
 
@@ -49,33 +48,33 @@ module _ {core : Core} {left : ℕ} {p : Place} {m : List ℕ} {s : State} {goal
   is-step = rw (lt-ltb (s .pc .0) (length m) (omega (arith, u .before-stop, u .before-last, u .last-byte)))
 
   -- what does not go on leaves memory as it was
-  pub left-alone : ((t : State) → told s r ≡ go t 0 0 0 → ⊥) → m′ ≡ m
+  pub left-alone : ((t : State) → answered s r ≡ Done t → ⊥) → m′ ≡ m
   left-alone k = by-case d
     where
-      quiet : (x : Effect) → told s r ≡ unwritten x → memoryAfter m x ≡ m
+      quiet : (x : Effect) → answered s r ≡ answerOf s x → memoryAfter m x ≡ m
       quiet (refuse o) h = refl
       quiet (stop t) h = refl
       quiet (go t a n v) h = absurd (k t h)
 
       by-case : Tried m s e (eqb (s .pc .0) halt) r m′ → m′ ≡ m
       by-case (inl q) = q .1
-      by-case (inr q) = q .1 .memory ∙ quiet e (q .1 .way)
+      by-case (inr q) = q .1 .memory ∙ quiet e (q .1 .answer)
 
-  module _ {t : State} (h : told s r ≡ go t 0 0 0) (l : length m′ ≡ length m) where
-    carried : (eqb (s .pc .0) halt ≡ false) × Carried m s e r m′
+  module _ {t : State} (h : answered s r ≡ Done t) (l : length m′ ≡ length m) where
+    carried : (eqb (s .pc .0) halt ≡ false) × Carried m s e (answered s r) m′
     carried = by-case d
       where
-        by-case : Tried m s e (eqb (s .pc .0) halt) r m′ → (eqb (s .pc .0) halt ≡ false) × Carried m s e r m′
+        by-case : Tried m s e (eqb (s .pc .0) halt) r m′ → (eqb (s .pc .0) halt ≡ false) × Carried m s e (answered s r) m′
         by-case (inl q) =
-            let n : refuse Limit ≡ go t 0 0 0 = sym (ap (λ (x : Way). told s x) (q .0)) ∙ h in
+            let n : Refused s Limit ≡ Done t = sym (ap (λ (x : Way). answered s x) (q .0)) ∙ h in
             let z : _≡_ {A = ℕ} 0 1 = cc in absurd (omega arith)
         by-case (inr q) = q
 
     pub moving : s .pc .0 < halt
     moving = let n = eqb-false (s .pc .0) halt (carried .0) in omega (arith, n, u .before-stop)
 
-    done : Answered m s (stepOf core (place m s)) (Done t) m′
-    done = rw (sym is-step) (answered (carried .1) (ap (λ (x : Effect). answerOf s x) (sym h)))
+    done : Carried m s (stepOf core (place m s)) (Done t) m′
+    done = rw (sym is-step, sym h) (carried .1)
 
     pub ready-again : Ready m′ t
     ready-again = ready-on core done (u .ready) l
@@ -124,7 +123,7 @@ pub shorter : {core : Core} {left : ℕ} {p : Place} {m m′ : List ℕ} {s t : 
 shorter u v e = omega (arith, e, u .before-stop, u .before-last, u .last-byte, u .ready .not-over, v .before-stop, v .before-goal)
 
 -- the ways that end a stretch go on to no state
-pub ends : (s : State) (r : Way) → (tagOf Way.the-type r ≡ 3) ⊎ (tagOf Way.the-type r ≡ 4) → (t : State) → told s r ≡ go t 0 0 0 → ⊥
+pub ends : (s : State) (r : Way) → (tagOf Way.the-type r ≡ 3) ⊎ (tagOf Way.the-type r ≡ 4) → (t : State) → answered s r ≡ Done t → ⊥
 ends s (Next x) (inl k) t h = omega arith
 ends s (Next x) (inr k) t h = omega arith
 ends s (NextFlagged x) (inl k) t h = omega arith

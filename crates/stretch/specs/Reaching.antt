@@ -6,7 +6,7 @@ use Rattle.machine.specs.declared.Core.{Core}
 use Rattle.machine.specs.State.{Place}
 use Rattle.machine.specs.Run.{steps}
 
--- with l steps left at p it has come to p′, and l′ are left: by that many steps, none of which stopped or was refused
+-- with l steps left at p it has come to p′ with l′ left, by l - l′ steps, none of which stopped or was refused
 pub record Reaches (core : Core) (l : ℕ) (p : Place) (l′ : ℕ) (p′ : Place) : Type 0 where
-  pub fewer : l′ ≤ l
+  pub no-more : l′ ≤ l
   pub by-steps : steps core (l - l′) p ≡ some p′

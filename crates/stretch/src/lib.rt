@@ -14,8 +14,8 @@ pub struct Stand {
     pub left: u32,
 }
 
-// The run stands at s and comes to its limit at `goal`. The state is made anew for speed (docs/CHANGING.md).
-fn reached(s: State, goal: usize) -> Stand
+// The run stands at s and would come to its limit at `goal`. The state is made anew for speed (docs/CHANGING.md).
+fn here(s: State, goal: usize) -> Stand
     requires { ⌜ (s .pc .0 ≤ goal) × (goal - s .pc .0 < 2 ^ 32) ⌝ }
     ensures { λ r. ⌜ r ≡ record { state = s; left = goal - s .pc .0 } ⌝ }
 {
@@ -40,7 +40,7 @@ fn lesser(a: usize, b: usize) -> usize
 }
 
 // From `start` as far as the common instructions lead: to any other byte, to the last byte, to the limit, or to what stops or
-// is refused. While the counter only moves on, the limit is met where it comes to `goal`.
+// is refused. While the counter only moves on, the limit is met where it comes to `goal`, and `halt` is that or the last byte.
 pub fn stretch(core: Core, image: &mut [u8], start: State, left: u32) -> Stand
     requires { ⌜ Ready (now image) start ⌝ }
     ensures { λ r. ⌜ Ready (now (image .exit)) (r .state) × Reaches core left (place (now (image .entry)) start) (r .left) (place (now (image .exit)) (r .state)) ⌝ }
@@ -48,15 +48,15 @@ pub fn stretch(core: Core, image: &mut [u8], start: State, left: u32) -> Stand
     let mut s = start;
     let mut goal = s.pc.0 as usize + left as usize;
     if image.len() <= s.pc.0 as usize + 1 {
-        return reached(s, goal);
+        return here(s, goal);
     }
     let last = image.len() - 1;
-    let mut stop = lesser(goal, last);
+    let mut halt = lesser(goal, last);
     loop {
         let pc = s.pc.0 as usize;
         let byte = image[pc];
         let class = classes::class_of(byte);
-        let way = common::common(core, class, image, s, byte, pc == stop);
+        let way = common_instructions::carry_out(core, class, image, s, byte, pc == halt);
         match way {
             Way::Next(sp) => {
                 s = s.next(sp);
@@ -69,12 +69,12 @@ pub fn stretch(core: Core, image: &mut [u8], start: State, left: u32) -> Stand
                 goal = at + (goal - pc - 1);
                 s = s.jump(to, sp);
                 if last <= at {
-                    return reached(s, goal);
+                    return here(s, goal);
                 }
-                stop = lesser(goal, last);
+                halt = lesser(goal, last);
             }
             _ => {
-                return reached(s, goal);
+                return here(s, goal);
             }
         }
     }

@@ -10,19 +10,19 @@ use Rattle.machine.specs.declared.Answer.{Answer}
 use Rattle.machine.specs.declared.Answer.the-variants.{Done}
 use Rattle.machine.specs.State.{Place, place}
 use Rattle.machine.specs.Table.{stepOf}
-use Rattle.machine.specs.Inner.{Ready, Answered}
+use Rattle.machine.specs.Inner.{Ready, Carried}
 use Rattle.stretch.specs.Reaching.{Reaches}
 use Rattle.stretch.proofs.Reaching.{one-further, ready-on}
 
 -- from p, with `limit` steps, the run has come to m and s, and `left` are left
-pub record Under (core : Core) (limit : ℕ) (p : Place) (m : List ℕ) (s : State) (left : ℕ) : Type 0 where
+pub record SoFar (core : Core) (limit : ℕ) (p : Place) (m : List ℕ) (s : State) (left : ℕ) : Type 0 where
   pub ready : Ready m s
   pub reaches : Reaches core limit p left (place m s)
   pub same-length : length m ≡ length (p .memory)
 
-pub stepped : {core : Core} {limit : ℕ} {p : Place} {m : List ℕ} {s : State} {left : ℕ} → Under core limit p m s left
-    → {r : Answer} {m′ : List ℕ} → Answered m s (stepOf core (place m s)) r m′ → {t : State} → r ≡ Done t → length m′ ≡ length m
-    → 0 < left → Under core limit p m′ t (left - 1)
+pub stepped : {core : Core} {limit : ℕ} {p : Place} {m : List ℕ} {s : State} {left : ℕ} → SoFar core limit p m s left
+    → {r : Answer} {m′ : List ℕ} → Carried m s (stepOf core (place m s)) r m′ → {t : State} → r ≡ Done t → length m′ ≡ length m
+    → 0 < left → SoFar core limit p m′ t (left - 1)
 stepped {core} {left = left} u d e l k =
     let done = rw e at d in
     record {

@@ -35,8 +35,8 @@ fn ended_by(answer: Answer, n: u32) -> Finish
     }
 }
 
-// The steps in order, counted, to the first stop: one the careful way, which takes any byte and ends the run, and then as many as
-// the common instructions lead on, in turns. The careful one comes first so that a short run is done with it alone.
+// The steps in order, counted, to the first stop: one by `step`, which takes any byte and alone can end a run before its limit, and
+// then a stretch of the common instructions, in turns. The step comes first, so that a call with limit 1 is done with it alone.
 fn run_from(core: Core, image: &mut [u8], start: State, limit: u32) -> Finish
     requires { ⌜ Ready (now image) start ⌝ }
     ensures { λ r. ⌜ handedBack r (now (image .exit)) ≡ runFrom core limit 0 (place (now (image .entry)) start) ⌝ }

@@ -3,7 +3,6 @@ use mathlib.Core.Path.{refl}
 use native.Mathlib.Omega.{arith}
 use borrow.Author.Tests.{lt-ltb, le-ltb}
 use Rattle.machine.specs.Table.{stepOf}
-use Rattle.machine.proofs.Ways.{answered}
 use borrow.Author.Needs.{needs}
 use Rattle.step.proofs.step.Statement.{statement}
 use Rattle.step.proofs.step.Tie as tie
@@ -19,7 +18,7 @@ unfolding stepOf
 returns-2 c =
     let a = c .before .before .before .before .before .before .before .before .before .args in
     simp (lt-ltb (a .s .pc .0) (length (a .image .now)) (omega arith))
-    (answered (c .before .before .before .carry-out .ensures) (c .after .ensures))
+    (rw (c .answer .ensures) (c .before .before .before .carry-out .ensures))
 
 pub step-spec : {M : Type 1} → statement M
 step-spec =

@@ -1,12 +1,10 @@
 use Prim.Native.Nat.{_+_, _-_}
 use mathlib.Core.Path.{_≡_, refl, ap, sym, _∙_}
 use native.Mathlib.Omega.{arith}
-use lib.ListN.{length}
 use borrow.Author.Needs.{needs}
 use Rattle.machine.specs.declared.State.{State}
 use Rattle.machine.specs.declared.Way.{Way}
-use Rattle.machine.specs.Effects.{Effect.go}
-use Rattle.machine.specs.Inner.{told}
+use Rattle.machine.specs.Inner.{answered}
 use Rattle.machine.specs.State.{place}
 use Rattle.stretch.proofs.Reaching.{none-done}
 use Rattle.stretch.proofs.Under.{Under, moving, ready-again, came, moved-on, jumped, shorter, left-alone, ends}
@@ -14,15 +12,15 @@ use Rattle.stretch.proofs.stretch.Statement.{statement}
 use Rattle.stretch.proofs.stretch.Tie as tie
 
 abbrev Inv-loop : tie.InvT-loop
-Inv-loop core image₀ left s₀ goal₀ last stop₀ image s goal stop = Under core left (place image₀ s₀) image s goal last stop
+Inv-loop core image₀ left s₀ goal₀ last halt₀ image s goal halt = Under core left (place image₀ s₀) image s goal last halt
 
 abbrev μ-loop : tie.MeasureT-loop
-μ-loop core image₀ left s₀ goal₀ last stop₀ image s goal stop = goal - s .pc .0
+μ-loop core image₀ left s₀ goal₀ last halt₀ image s goal halt = goal - s .pc .0
 
 returns : tie.Need-returns Inv-loop μ-loop
 returns c =
     let a = c .before .before .before .before .before in
-    rw (c .reached .ensures) (a .pre, none-done (a .args .start .pc .0 + a .args .left - a .args .start .pc .0) (omega arith))
+    rw (c .here .ensures) (a .pre, none-done (a .args .start .pc .0 + a .args .left - a .args .start .pc .0) (omega arith))
 
 loop-holds : tie.Need-loop-holds Inv-loop μ-loop
 loop-holds c =
@@ -41,15 +39,15 @@ loop-holds c =
 slice-read-byte : tie.Need-slice-read-byte Inv-loop μ-loop
 slice-read-byte c = let u = c .before .before .loop .inv in omega (arith, u .before-stop, u .before-last, u .last-byte)
 
-common-requires : tie.Need-common-requires Inv-loop μ-loop
-common-requires c κs = (c .before .before .before .before .loop .inv .ready, c .before .class-of .ensures)
+carry-out-requires : tie.Need-carry-out-requires Inv-loop μ-loop
+carry-out-requires c κs = (c .before .before .before .before .loop .inv .ready, c .before .class-of .ensures)
 
 loop-again : tie.Need-loop-again Inv-loop μ-loop
 loop-again c =
     let x = c .before .before .before .before in
     let l = x .before .before .before .before .before .before .before .loop in
-    let d = x .before .before .common in
-    rw (c .next .ensures) (moved-on (l .inv) (d .ensures) (ap (λ (w : Way). told (l .s) w) (c .before .before .way .given .1))
+    let d = x .before .before .carry-out in
+    rw (c .next .ensures) (moved-on (l .inv) (d .ensures) (ap (λ (w : Way). answered (l .s) w) (c .before .before .way .given .1))
     (d .kept .1 .1 .0) refl)
 
 loop-less : tie.Need-loop-less Inv-loop μ-loop
@@ -61,8 +59,8 @@ loop-again-2 : tie.Need-loop-again-2 Inv-loop μ-loop
 loop-again-2 c =
     let x = c .before .before .before .before in
     let l = x .before .before .before .before .before .before .before .loop in
-    let d = x .before .before .common in
-    rw (c .next-flagged .ensures) (moved-on (l .inv) (d .ensures) (ap (λ (w : Way). told (l .s) w) (c .before .before .way2 .given .1))
+    let d = x .before .before .carry-out in
+    rw (c .next-flagged .ensures) (moved-on (l .inv) (d .ensures) (ap (λ (w : Way). answered (l .s) w) (c .before .before .way2 .given .1))
     (d .kept .1 .1 .0) refl)
 
 loop-less-2 : tie.Need-loop-less-2 Inv-loop μ-loop
@@ -79,29 +77,29 @@ sub-goal-2 : tie.Need-sub-goal-2 Inv-loop μ-loop
 sub-goal-2 c =
     let x = c .before .before .before .before in
     let l = x .before .before .before .before .before .before .before .loop in
-    let d = x .before .before .common in
-    let h = ap (λ (w : Way). told (l .s) w) (c .before .before .way3 .given .1) in
+    let d = x .before .before .carry-out in
+    let h = ap (λ (w : Way). answered (l .s) w) (c .before .before .way3 .given .1) in
     omega (arith, moving (l .inv) (d .ensures) h (d .kept .1 .1 .0), l .inv .before-goal)
 
-reached-requires-2 : tie.Need-reached-requires-2 Inv-loop μ-loop
-reached-requires-2 c κs =
+here-requires-2 : tie.Need-here-requires-2 Inv-loop μ-loop
+here-requires-2 c κs =
     let u = c .before .before .before .before .before .before .before .before .before .before .before .before .before .loop .inv in
-    rw (c .before .jump .ensures) (omega arith, omega (arith, u .reaches .fewer, u .fits))
+    rw (c .before .jump .ensures) (omega arith, omega (arith, u .reaches .no-more, u .fits))
 
 same-length : tie.Need-same-length Inv-loop μ-loop
 same-length c =
     let x = c .before .before .before .before .before .before .before in
     let l = x .before .before .before .before .before .before .before .loop in
-    search (needs, x .before .before .common .kept .1 .1 .0, l .inv .same-length)
+    search (needs, x .before .before .carry-out .kept .1 .1 .0, l .inv .same-length)
 
 returns-2 : tie.Need-returns-2 Inv-loop μ-loop
 returns-2 c =
     let x = c .before .before .before .before .before .before .before in
     let l = x .before .before .before .before .before .before .before .loop in
-    let d = x .before .before .common in
-    let h = ap (λ (w : Way). told (l .s) w) (c .before .before .before .before .before .way3 .given .1) in
+    let d = x .before .before .carry-out in
+    let h = ap (λ (w : Way). answered (l .s) w) (c .before .before .before .before .before .way3 .given .1) in
     let n = moving (l .inv) (d .ensures) h (d .kept .1 .1 .0) in
-    rw (c .reached2 .ensures, c .before .before .jump .ensures) (
+    rw (c .here2 .ensures, c .before .before .jump .ensures) (
       ready-again (l .inv) (d .ensures) h (d .kept .1 .1 .0),
       came (l .inv) (d .ensures) h (d .kept .1 .1 .0) _ (omega (arith, n, l .inv .before-goal)),
     )
@@ -110,25 +108,25 @@ loop-again-3 : tie.Need-loop-again-3 Inv-loop μ-loop
 loop-again-3 c =
     let x = c .before .before .before .before .before .before .before in
     let l = x .before .before .before .before .before .before .before .loop in
-    let d = x .before .before .common in
-    let h = ap (λ (w : Way). told (l .s) w) (c .before .before .before .before .before .way3 .given .1) in
+    let d = x .before .before .carry-out in
+    let h = ap (λ (w : Way). answered (l .s) w) (c .before .before .before .before .before .way3 .given .1) in
     rw (c .before .before .jump .ensures)
     (jumped (l .inv) (d .ensures) h (d .kept .1 .1 .0) refl (omega arith) (c .lesser2 .ensures))
 
 loop-less-3 : tie.Need-loop-less-3 Inv-loop μ-loop
 loop-less-3 c = rw (c .before .before .jump .ensures) (omega (arith, sub-goal-2 (c .before .before .before)))
 
-reached-requires-3 : tie.Need-reached-requires-3 Inv-loop μ-loop
-reached-requires-3 c κs =
+here-requires-3 : tie.Need-here-requires-3 Inv-loop μ-loop
+here-requires-3 c κs =
     let u = c .before .before .before .before .before .before .before .before .loop .inv in
-    (omega (arith, u .before-stop, u .before-goal), omega (arith, u .reaches .fewer, u .fits))
+    (omega (arith, u .before-stop, u .before-goal), omega (arith, u .reaches .no-more, u .fits))
 
 returns-3 : tie.Need-returns-3 Inv-loop μ-loop
 returns-3 c =
     let x = c .before .before in
     let l = x .before .before .before .before .before .before .before .loop in
-    let d = x .before .before .common in
-    rw (c .reached3 .ensures, left-alone (l .inv) (d .ensures) (ends (l .s) (d .result) (c .before .match .keys4)))
+    let d = x .before .before .carry-out in
+    rw (c .here3 .ensures, left-alone (l .inv) (d .ensures) (ends (l .s) (d .result) (c .before .match .keys4)))
     (l .inv .ready, l .inv .reaches)
 
 pub stretch-spec : {M : Type 1} → statement M
@@ -136,7 +134,7 @@ stretch-spec =
     tie.close
     (tie.spec Inv-loop μ-loop (λ c. search needs) (λ c. search needs) (λ c. search needs) (λ c. search needs)
     (λ c κs. (omega arith, omega arith)) returns (λ c. search needs) (λ c κs. search needs) loop-holds (λ c. search needs)
-    slice-read-byte (λ c κs. search needs) common-requires (λ c. search needs) (λ c κs. search needs) loop-less loop-again
+    slice-read-byte (λ c κs. search needs) carry-out-requires (λ c. search needs) (λ c κs. search needs) loop-less loop-again
     (λ c. search needs) (λ c κs. search needs) loop-less-2 loop-again-2 (λ c. search needs) (λ c. search needs) sub-goal
-    sub-goal-2 (λ c. search needs) (λ c κs. search needs) reached-requires-2 same-length returns-2
-    (λ c κs. search needs) loop-less-3 loop-again-3 reached-requires-3 (λ c. search needs) returns-3)
+    sub-goal-2 (λ c. search needs) (λ c κs. search needs) here-requires-2 same-length returns-2
+    (λ c κs. search needs) loop-less-3 loop-again-3 here-requires-3 (λ c. search needs) returns-3)

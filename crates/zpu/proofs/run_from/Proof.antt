@@ -6,12 +6,12 @@ use Rattle.machine.specs.State.{place}
 use Rattle.machine.specs.Run.{steps}
 use Rattle.laws.proofs.Turns.{spent, last, not-done}
 use Rattle.stretch.proofs.Reaching.{none-done, joined}
-use Rattle.zpu.proofs.Stepped.{Under, stepped}
+use Rattle.zpu.proofs.Stepped.{SoFar, stepped}
 use Rattle.zpu.proofs.run_from.Statement.{statement}
 use Rattle.zpu.proofs.run_from.Tie as tie
 
 abbrev Inv-loop : tie.InvT-loop
-Inv-loop core image₀ limit s₀ left₀ image s left = Under core limit (place image₀ s₀) image s left
+Inv-loop core image₀ limit s₀ left₀ image s left = SoFar core limit (place image₀ s₀) image s left
 
 abbrev μ-loop : tie.MeasureT-loop
 μ-loop core image₀ limit s₀ left₀ image s left = left
@@ -27,7 +27,7 @@ returns c =
     let so-far = l .inv .reaches in
     rw (c .ended-by .ensures)
     (sym (last (a .core) (a .limit - l .left) (place (a .image .now) (a .start)) (so-far .by-steps) (d .ensures) (a .limit)
-    (omega (arith, so-far .fewer)) (not-done (d .result) (c .before .match .keys2))))
+    (omega (arith, so-far .no-more)) (not-done (d .result) (c .before .match .keys2))))
 
 stretch-requires : tie.Need-stretch-requires Inv-loop μ-loop
 stretch-requires c κs =
@@ -69,5 +69,5 @@ run-from-spec =
     tie.close
     (tie.spec Inv-loop μ-loop loop-holds (λ c κs. c .before .before .loop .inv .ready) (λ c. search needs)
     (λ c. search needs) (λ c κs. search needs) (λ c. search needs) returns (λ c. search needs) stretch-requires
-    (λ c. omega (arith, c .before .before .before .stretch .ensures .1 .fewer)) loop-again (λ c. search needs) loop-again-2
+    (λ c. omega (arith, c .before .before .before .stretch .ensures .1 .no-more)) loop-again (λ c. search needs) loop-again-2
     (λ c. search needs) returns-2)

@@ -11,4 +11,4 @@ push-spec = tie.close
     (λ c. search needs) (λ c. search needs) (λ c. search needs)
     (λ c. push-room _ _ (omega arith) (omega arith) (rw (c .enum-told .given .1) refl) (cc)) (λ c. search needs)
     (λ c. push-room _ _ (omega arith) (omega arith) (rw (c .enum-told2 .given .1) refl) (cc)) (λ c. search needs)
-    (λ c. push-room _ _ (omega arith) (omega arith) (rw (c .before .onward .given .1) refl) (cc)))
+    (λ c. push-room _ _ (omega arith) (omega arith) (rw (c .before .then .given .1) refl) (cc)))

@@ -2,12 +2,12 @@ use mathlib.Core.Path.{refl}
 use Rattle.machine.specs.declared.Core.the-variants.{Wide}
 use borrow.Author.Needs.{needs}
 use Rattle.classes.specs.declared.Class.the-variants.{Sub, Call, Neqbranch}
-use Rattle.common.proofs.Arms.{of, nothing, did}
-use Rattle.common.proofs.short.Statement.{statement}
-use Rattle.common.proofs.short.Tie as tie
+use Rattle.common_instructions.proofs.Arms.{of, nothing, did}
+use Rattle.common_instructions.proofs.by_core.Statement.{statement}
+use Rattle.common_instructions.proofs.by_core.Tie as tie
 
-pub short-spec : {M : Type 1} → statement M
-short-spec =
+pub by-core-spec : {M : Type 1} → statement M
+by-core-spec =
     tie.close
     (tie.spec (λ c. search needs) (λ c κs. search needs) (λ c. search needs) (λ c. search needs) (λ c κs. search needs)
     (λ c. search needs) (λ c κs. search needs) (λ c. search needs) (λ c κs. search needs) (λ c. search needs)

@@ -1,4 +1,4 @@
--- What an arm of `common` did.
+-- What an arm did.
 use Prim.Native.Nat.{ℕ}
 use mathlib.Core.Path.{_≡_, refl, subst}
 use mathlib.Core.Bool.{Bool, false}
@@ -11,10 +11,10 @@ use Rattle.machine.specs.declared.Outcome.the-variants.{Limit}
 use Rattle.machine.specs.Effects.{Effect}
 use Rattle.machine.specs.Instructions.{Instr}
 use Rattle.machine.specs.Table.{effectOf}
-use Rattle.machine.specs.Inner.{Carried}
+use Rattle.machine.specs.Inner.{Carried, answered}
 use Rattle.classes.specs.declared.Class.{Class}
 use Rattle.classes.specs.Classes.{Agrees}
-use Rattle.common.specs.Tried.{Tried}
+use Rattle.common_instructions.specs.Tried.{Tried}
 
 pub of : (b : ℕ) {class : Class} → Agrees class b → (arm : Class) → class ≡ arm → Agrees arm b
 of b h arm e = subst (λ (c : Class). Agrees c b) e h
@@ -24,5 +24,5 @@ nothing = inl (refl, refl)
 
 -- the instruction that the byte is was carried out
 pub did : {i j : Instr} {m : List ℕ} {s : State} {pause : Bool} {r : Way} {m′ : List ℕ}
-    → i ≡ j → pause ≡ false → Carried m s (effectOf m s j) r m′ → Tried m s (effectOf m s i) pause r m′
+    → i ≡ j → pause ≡ false → Carried m s (effectOf m s j) (answered s r) m′ → Tried m s (effectOf m s i) pause r m′
 did h p c = inr (p, rw h c)

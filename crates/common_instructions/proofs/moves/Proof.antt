@@ -1,8 +1,8 @@
 use borrow.Author.Needs.{needs}
 use Rattle.classes.specs.declared.Class.the-variants.{Load, Store, Poppc}
-use Rattle.common.proofs.Arms.{of, nothing, did}
-use Rattle.common.proofs.moves.Statement.{statement}
-use Rattle.common.proofs.moves.Tie as tie
+use Rattle.common_instructions.proofs.Arms.{of, nothing, did}
+use Rattle.common_instructions.proofs.moves.Statement.{statement}
+use Rattle.common_instructions.proofs.moves.Tie as tie
 
 pub moves-spec : {M : Type 1} → statement M
 moves-spec =

@@ -1,11 +1,11 @@
 use borrow.Author.Needs.{needs}
 use Rattle.classes.specs.declared.Class.the-variants.{Im, Loadsp, Storesp, Addsp}
-use Rattle.common.proofs.Arms.{of, nothing, did}
-use Rattle.common.proofs.common.Statement.{statement}
-use Rattle.common.proofs.common.Tie as tie
+use Rattle.common_instructions.proofs.Arms.{of, nothing, did}
+use Rattle.common_instructions.proofs.carry_out.Statement.{statement}
+use Rattle.common_instructions.proofs.carry_out.Tie as tie
 
-pub common-spec : {M : Type 1} → statement M
-common-spec =
+pub carry-out-spec : {M : Type 1} → statement M
+carry-out-spec =
     tie.close
     (tie.spec (λ c. search needs) (λ c. nothing) (λ c κs. search needs) (λ c. search needs) (λ c. nothing)
     (λ c κs. search needs) (λ c κs. search needs) (λ c. search needs) (λ c. nothing) (λ c κs. search needs)

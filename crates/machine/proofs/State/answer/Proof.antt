@@ -1,9 +1,9 @@
 use borrow.Author.Needs.{needs}
-use Rattle.machine.proofs.State.after.Statement.{statement}
-use Rattle.machine.proofs.State.after.Tie as tie
+use Rattle.machine.proofs.State.answer.Statement.{statement}
+use Rattle.machine.proofs.State.answer.Tie as tie
 
-pub after-spec : {M : Type 1} → statement M
-after-spec =
+pub answer-spec : {M : Type 1} → statement M
+answer-spec =
     tie.close
     (tie.spec (λ c. search needs) (λ c κs. search needs) (λ c. search needs) (λ c κs. search needs) (λ c. search needs)
     (λ c κs. search needs) (λ c. search needs) (λ c κs. search needs) (λ c. search needs)

@@ -1,5 +1,6 @@
 // The instructions that programs are mostly made of, told by the class of a byte. What is none of them is left alone, and so is
-// everything where the run is to pause: the way is then LIMIT. Each arm tests for that by itself, for speed (docs/CHANGING.md).
+// everything where the run is to pause: the way is then a refusal by LIMIT, which no instruction gives. Each arm tests for that by
+// itself, for speed (docs/CHANGING.md); the functions are four so that none is long, and the compiler makes one match of theirs.
 use arithmetic::BinOp;
 use arithmetic::UnOp;
 use classes::Class;
@@ -16,10 +17,10 @@ ghost use Rattle.machine.specs.Table.{effectOf};
 ghost use Rattle.machine.specs.Instructions.{Instr.EMULATE, decode};
 ghost use Rattle.machine.specs.Inner.{Ready};
 ghost use Rattle.classes.specs.Classes.{Agrees};
-ghost use Rattle.common.specs.Tried.{Tried};
+ghost use Rattle.common_instructions.specs.Tried.{Tried};
 
-// On the narrow core the byte is EMULATE, whatever it is on the wide one.
-fn short(core: Core, class: Class, image: &mut [u8], s: State, byte: u8) -> Way
+// A byte from 32 to 63.
+fn by_core(core: Core, class: Class, image: &mut [u8], s: State, byte: u8) -> Way
     requires { ⌜ Ready (now image) s ⌝ }
     requires { ⌜ Agrees class byte × (decode Narrow byte ≡ EMULATE (byte % 32)) ⌝ }
     ensures { λ r. ⌜ Tried (now (image .entry)) s (effectOf (now (image .entry)) s (decode core byte)) false r (now (image .exit)) ⌝ }
@@ -35,7 +36,7 @@ fn short(core: Core, class: Class, image: &mut [u8], s: State, byte: u8) -> Way
     }
 }
 
-fn shorts(core: Core, class: Class, image: &mut [u8], s: State, byte: u8, pause: bool) -> Way
+fn from_32(core: Core, class: Class, image: &mut [u8], s: State, byte: u8, pause: bool) -> Way
     requires { ⌜ Ready (now image) s ⌝ }
     requires { ⌜ Agrees class byte ⌝ }
     ensures { λ r. ⌜ Tried (now (image .entry)) s (effectOf (now (image .entry)) s (decode core byte)) pause r (now (image .exit)) ⌝ }
@@ -45,25 +46,25 @@ fn shorts(core: Core, class: Class, image: &mut [u8], s: State, byte: u8, pause:
             if pause {
                 return Way::Refuse(Outcome::Limit);
             }
-            short(core, class, image, s, byte)
+            by_core(core, class, image, s, byte)
         }
         Class::Call => {
             if pause {
                 return Way::Refuse(Outcome::Limit);
             }
-            short(core, class, image, s, byte)
+            by_core(core, class, image, s, byte)
         }
         Class::Neqbranch => {
             if pause {
                 return Way::Refuse(Outcome::Limit);
             }
-            short(core, class, image, s, byte)
+            by_core(core, class, image, s, byte)
         }
-        Class::Short => {
+        Class::Emulate => {
             if pause {
                 return Way::Refuse(Outcome::Limit);
             }
-            short(core, class, image, s, byte)
+            by_core(core, class, image, s, byte)
         }
         _ => Way::Refuse(Outcome::Limit),
     }
@@ -93,7 +94,7 @@ fn moves(core: Core, class: Class, image: &mut [u8], s: State, byte: u8, pause: 
             }
             jump_instructions::poppc(image, s)
         }
-        _ => shorts(core, class, image, s, byte, pause),
+        _ => from_32(core, class, image, s, byte, pause),
     }
 }
 
@@ -127,11 +128,17 @@ fn operations(core: Core, class: Class, image: &mut [u8], s: State, byte: u8, pa
             }
             data_instructions::unary(image, s, UnOp::Not)
         }
+        Class::Flip => {
+            if pause {
+                return Way::Refuse(Outcome::Limit);
+            }
+            data_instructions::unary(image, s, UnOp::Flip)
+        }
         _ => moves(core, class, image, s, byte, pause),
     }
 }
 
-pub fn common(core: Core, class: Class, image: &mut [u8], s: State, byte: u8, pause: bool) -> Way
+pub fn carry_out(core: Core, class: Class, image: &mut [u8], s: State, byte: u8, pause: bool) -> Way
     requires { ⌜ Ready (now image) s ⌝ }
     requires { ⌜ Agrees class byte ⌝ }
     ensures { λ r. ⌜ Tried (now (image .entry)) s (effectOf (now (image .entry)) s (decode core byte)) pause r (now (image .exit)) ⌝ }
