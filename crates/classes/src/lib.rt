@@ -29,7 +29,7 @@ pub fn class_of(byte: u8) -> Class
     ensures { λ r. ⌜ Agrees r byte ⌝ }
 {
     match byte {
-        // 0 to 15
+        // 1 to 15
         4 => Class::Poppc,
         5 => Class::Add,
         6 => Class::And,

@@ -80,12 +80,12 @@ impl State {
     pub fn answer(self, way: Way) -> Answer
         ensures { λ r. ⌜ r ≡ answered self way ⌝ }
     {
-        let sp = self.sp;
+        let broke = self.next(self.sp);
         match way {
             Way::Next(to) => Answer::Done(self.next(to)),
             Way::NextFlagged(to) => Answer::Done(self.next_flagged(to)),
             Way::Jump(pc, to) => Answer::Done(self.jump(pc, to)),
-            Way::Stop => Answer::Broke(self.next(sp)),
+            Way::Stop => Answer::Broke(broke),
             Way::Refuse(o) => Answer::Refused(self, o),
         }
     }

@@ -34,10 +34,10 @@ fn offset_or_emulate(image: &mut [u8], s: State, byte: u8) -> Way
     if 64 <= byte {
         return stack_instructions::storesp(image, s, machine::inverted(byte));
     }
-    jump_instructions::emulate(image, s, byte - 32)
+    jump_instructions::emulate(image, s, byte % 32)
 }
 
-// The instruction that the byte is. IM comes first for speed.
+// The instruction that the byte is.
 fn carry_out(core: Core, image: &mut [u8], s: State, byte: u8) -> Way
     requires { ⌜ Ready (now image) s ⌝ }
     ensures { λ r. ⌜ Carried (now (image .entry)) s (effectOf (now (image .entry)) s (decode core byte)) (answered s r) (now (image .exit)) ⌝ }

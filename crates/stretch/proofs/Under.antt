@@ -20,19 +20,16 @@ use Rattle.machine.specs.State.{Place, place, fetched}
 use Rattle.machine.specs.Instructions.{decode}
 use Rattle.machine.specs.Effects.{Effect, Effect.refuse, Effect.stop, Effect.go, memoryAfter}
 use Rattle.machine.specs.Table.{effectOf, stepOf}
-use Rattle.machine.specs.Inner.{Ready, answerOf, Carried, answered}
+use Rattle.machine.specs.Inner.{answerOf, Carried, answered}
 use Rattle.machine.proofs.Way
 use Rattle.common_instructions.specs.Tried.{Tried}
-use Rattle.stretch.specs.Reaching.{Reaches}
-use Rattle.stretch.proofs.Reaching.{one-further, ready-on}
+use Rattle.stretch.proofs.Reaching.{SoFar, stepped}
 
 -- from p, with `left` steps, the run has come to m and s; it comes to its limit at `goal`, and pauses at `halt`
 pub record Under (core : Core) (left : ℕ) (p : Place) (m : List ℕ) (s : State) (goal last halt : ℕ) : Type 0 where
-  pub ready : Ready m s
-  pub reaches : Reaches core left p (goal - s .pc .0) (place m s)
-  pub same-length : length m ≡ length (p .memory)
+  pub so-far : SoFar core left p m s (goal - s .pc .0)
   pub last-byte : last + 1 ≡ length m
-  pub before-stop : s .pc .0 ≤ halt
+  pub before-halt : s .pc .0 ≤ halt
   pub before-last : halt ≤ last
   pub before-goal : halt ≤ goal
   pub fits : left < 2 ^ 32
@@ -45,7 +42,7 @@ module _ {core : Core} {left : ℕ} {p : Place} {m : List ℕ} {s : State} {goal
 
   is-step : e ≡ stepOf core (place m s)
   unfolding stepOf
-  is-step = rw (lt-ltb (s .pc .0) (length m) (omega (arith, u .before-stop, u .before-last, u .last-byte)))
+  is-step = rw (lt-ltb (s .pc .0) (length m) (omega (arith, u .before-halt, u .before-last, u .last-byte)))
 
   -- what does not go on leaves memory as it was
   pub left-alone : ((t : State) → answered s r ≡ Done t → ⊥) → m′ ≡ m
@@ -71,29 +68,23 @@ module _ {core : Core} {left : ℕ} {p : Place} {m : List ℕ} {s : State} {goal
         by-case (inr q) = q
 
     pub moving : s .pc .0 < halt
-    moving = let n = eqb-false (s .pc .0) halt (carried .0) in omega (arith, n, u .before-stop)
+    moving = let n = eqb-false (s .pc .0) halt (carried .0) in omega (arith, n, u .before-halt)
 
     done : Carried m s (stepOf core (place m s)) (Done t) m′
     done = rw (sym is-step, sym h) (carried .1)
 
-    pub ready-again : Ready m′ t
-    ready-again = ready-on core done (u .ready) l
-
     -- the step is one of those that were left
-    pub came : (more : ℕ) → more + 1 ≡ goal - s .pc .0 → Reaches core left p more (place m′ t)
-    came = one-further core done (u .reaches)
+    pub came : (more : ℕ) → more ≡ goal - s .pc .0 - 1 → SoFar core left p m′ t more
+    came more k = rw k (stepped (u .so-far) done refl l (omega (arith, moving, u .before-goal)))
 
     pub moved-on : t .pc .0 ≡ wrap (s .pc .0 + 1) → Under core left p m′ t goal last halt
     moved-on e =
         let n = moving in
-        let g = u .before-goal in
-        let k : t .pc .0 ≡ s .pc .0 + 1 = omega (arith, e, u .before-last, u .last-byte, u .ready .not-over) in
+        let k : t .pc .0 ≡ s .pc .0 + 1 = omega (arith, e, u .before-last, u .last-byte, u .so-far .ready .not-over) in
         record {
-          ready = ready-again;
-          reaches = came (goal - t .pc .0) (omega arith);
-          same-length = l ∙ u .same-length;
+          so-far = came (goal - t .pc .0) (omega arith);
           last-byte = u .last-byte ∙ sym l;
-          before-stop = omega arith;
+          before-halt = omega arith;
           before-last = u .before-last;
           before-goal = u .before-goal;
           fits = u .fits;
@@ -103,14 +94,10 @@ module _ {core : Core} {left : ℕ} {p : Place} {m : List ℕ} {s : State} {goal
     pub jumped : {goal′ halt′ : ℕ} → goal′ ≡ t .pc .0 + (goal - s .pc .0 - 1) → t .pc .0 ≤ last → halt′ ≡ min goal′ last
         → Under core left p m′ t goal′ last halt′
     jumped {goal′} k b q =
-        let n = moving in
-        let g = u .before-goal in
         record {
-          ready = ready-again;
-          reaches = came (goal′ - t .pc .0) (omega arith);
-          same-length = l ∙ u .same-length;
+          so-far = came (goal′ - t .pc .0) (omega arith);
           last-byte = u .last-byte ∙ sym l;
-          before-stop = omega arith;
+          before-halt = omega arith;
           before-last = omega arith;
           before-goal = omega arith;
           fits = u .fits;
@@ -120,7 +107,7 @@ module _ {core : Core} {left : ℕ} {p : Place} {m : List ℕ} {s : State} {goal
 pub shorter : {core : Core} {left : ℕ} {p : Place} {m m′ : List ℕ} {s t : State} {goal last halt : ℕ}
     → Under core left p m s goal last halt → Under core left p m′ t goal last halt → t .pc .0 ≡ wrap (s .pc .0 + 1)
     → goal - t .pc .0 < goal - s .pc .0
-shorter u v e = omega (arith, e, u .before-stop, u .before-last, u .last-byte, u .ready .not-over, v .before-stop, v .before-goal)
+shorter u v e = omega (arith, e, u .before-halt, u .before-last, u .last-byte, u .so-far .ready .not-over, v .before-halt, v .before-goal)
 
 -- the ways that end a stretch go on to no state
 pub ends : (s : State) (r : Way) → (tagOf Way.the-type r ≡ 3) ⊎ (tagOf Way.the-type r ≡ 4) → (t : State) → answered s r ≡ Done t → ⊥

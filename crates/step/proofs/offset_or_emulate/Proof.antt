@@ -1,3 +1,5 @@
+use Prim.Native.Nat.{_-_, _%_}
+use mathlib.Core.Path.{_≡_}
 use native.Mathlib.Omega.{arith}
 use borrow.Author.Tests.{lt-ltb, le-ltb}
 use Rattle.machine.specs.Instructions.{decode, below64}
@@ -23,11 +25,11 @@ returns-3 : tie.Need-returns-3
 unfolding decode below64
 returns-3 c =
     let b = c .before .before .before .before .before .before .before .args .byte in
-    simp (le-ltb b 32 (omega arith), lt-ltb b 64 (omega arith)) (c .before .before .emulate .ensures)
+    let low : b - 32 ≡ b % 32 = omega arith in
+    simp (le-ltb b 32 (omega arith), lt-ltb b 64 (omega arith), low) (c .before .before .emulate .ensures)
 
 pub offset-or-emulate-spec : {M : Type 1} → statement M
 offset-or-emulate-spec =
     tie.close
     (tie.spec (λ c κs. search needs) (λ c κs. search needs) (λ c. search needs) returns (λ c κs. search needs)
-    (λ c κs. search needs) (λ c. search needs) returns-2 (λ c. search needs) (λ c κs. search needs) (λ c. search needs)
-    returns-3)
+    (λ c κs. search needs) (λ c. search needs) returns-2 (λ c κs. search needs) (λ c. search needs) returns-3)

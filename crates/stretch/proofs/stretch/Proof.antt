@@ -7,7 +7,7 @@ use Rattle.machine.specs.declared.Way.{Way}
 use Rattle.machine.specs.Inner.{answered}
 use Rattle.machine.specs.State.{place}
 use Rattle.stretch.proofs.Reaching.{none-done}
-use Rattle.stretch.proofs.Under.{Under, moving, ready-again, came, moved-on, jumped, shorter, left-alone, ends}
+use Rattle.stretch.proofs.Under.{Under, moving, came, moved-on, jumped, shorter, left-alone, ends}
 use Rattle.stretch.proofs.stretch.Statement.{statement}
 use Rattle.stretch.proofs.stretch.Tie as tie
 
@@ -26,21 +26,23 @@ loop-holds : tie.Need-loop-holds Inv-loop μ-loop
 loop-holds c =
     let a = c .before .before .before .before .before in
     record {
-      ready = a .pre;
-      reaches = none-done (a .args .start .pc .0 + a .args .left - a .args .start .pc .0) (omega arith);
-      same-length = refl;
+      so-far = record {
+        ready = a .pre;
+        reaches = none-done (a .args .start .pc .0 + a .args .left - a .args .start .pc .0) (omega arith);
+        same-length = refl;
+      };
       last-byte = omega arith;
-      before-stop = omega arith;
+      before-halt = omega arith;
       before-last = omega arith;
       before-goal = omega arith;
       fits = omega arith;
     }
 
 slice-read-byte : tie.Need-slice-read-byte Inv-loop μ-loop
-slice-read-byte c = let u = c .before .before .loop .inv in omega (arith, u .before-stop, u .before-last, u .last-byte)
+slice-read-byte c = let u = c .before .before .loop .inv in omega (arith, u .before-halt, u .before-last, u .last-byte)
 
 carry-out-requires : tie.Need-carry-out-requires Inv-loop μ-loop
-carry-out-requires c κs = (c .before .before .before .before .loop .inv .ready, c .before .class-of .ensures)
+carry-out-requires c κs = (c .before .before .before .before .loop .inv .so-far .ready, c .before .class-of .ensures)
 
 loop-again : tie.Need-loop-again Inv-loop μ-loop
 loop-again c =
@@ -71,7 +73,7 @@ loop-less-2 c =
 sub-goal : tie.Need-sub-goal Inv-loop μ-loop
 sub-goal c =
     let u = c .before .before .before .before .before .before .before .before .before .before .before .loop .inv in
-    omega (arith, u .before-stop, u .before-goal)
+    omega (arith, u .before-halt, u .before-goal)
 
 sub-goal-2 : tie.Need-sub-goal-2 Inv-loop μ-loop
 sub-goal-2 c =
@@ -84,13 +86,13 @@ sub-goal-2 c =
 here-requires-2 : tie.Need-here-requires-2 Inv-loop μ-loop
 here-requires-2 c κs =
     let u = c .before .before .before .before .before .before .before .before .before .before .before .before .before .loop .inv in
-    rw (c .before .jump .ensures) (omega arith, omega (arith, u .reaches .no-more, u .fits))
+    rw (c .before .jump .ensures) (omega arith, omega (arith, u .so-far .reaches .no-more, u .fits))
 
 same-length : tie.Need-same-length Inv-loop μ-loop
 same-length c =
     let x = c .before .before .before .before .before .before .before in
     let l = x .before .before .before .before .before .before .before .loop in
-    search (needs, x .before .before .carry-out .kept .1 .1 .0, l .inv .same-length)
+    search (needs, x .before .before .carry-out .kept .1 .1 .0, l .inv .so-far .same-length)
 
 returns-2 : tie.Need-returns-2 Inv-loop μ-loop
 returns-2 c =
@@ -98,11 +100,9 @@ returns-2 c =
     let l = x .before .before .before .before .before .before .before .loop in
     let d = x .before .before .carry-out in
     let h = ap (λ (w : Way). answered (l .s) w) (c .before .before .before .before .before .way3 .given .1) in
-    let n = moving (l .inv) (d .ensures) h (d .kept .1 .1 .0) in
-    rw (c .here2 .ensures, c .before .before .jump .ensures) (
-      ready-again (l .inv) (d .ensures) h (d .kept .1 .1 .0),
-      came (l .inv) (d .ensures) h (d .kept .1 .1 .0) _ (omega (arith, n, l .inv .before-goal)),
-    )
+    let at = c .before .before .before .before .before .way3 .given .0 .0 .0 in
+    let v = came (l .inv) (d .ensures) h (d .kept .1 .1 .0) (at + (l .goal - l .s .pc .0 - 1) - at) (omega arith) in
+    rw (c .here2 .ensures, c .before .before .jump .ensures) (v .ready, v .reaches)
 
 loop-again-3 : tie.Need-loop-again-3 Inv-loop μ-loop
 loop-again-3 c =
@@ -119,7 +119,7 @@ loop-less-3 c = rw (c .before .before .jump .ensures) (omega (arith, sub-goal-2 
 here-requires-3 : tie.Need-here-requires-3 Inv-loop μ-loop
 here-requires-3 c κs =
     let u = c .before .before .before .before .before .before .before .before .loop .inv in
-    (omega (arith, u .before-stop, u .before-goal), omega (arith, u .reaches .no-more, u .fits))
+    (omega (arith, u .before-halt, u .before-goal), omega (arith, u .so-far .reaches .no-more, u .fits))
 
 returns-3 : tie.Need-returns-3 Inv-loop μ-loop
 returns-3 c =
@@ -127,7 +127,7 @@ returns-3 c =
     let l = x .before .before .before .before .before .before .before .loop in
     let d = x .before .before .carry-out in
     rw (c .here3 .ensures, left-alone (l .inv) (d .ensures) (ends (l .s) (d .result) (c .before .match .keys4)))
-    (l .inv .ready, l .inv .reaches)
+    (l .inv .so-far .ready, l .inv .so-far .reaches)
 
 pub stretch-spec : {M : Type 1} → statement M
 stretch-spec =

@@ -5,8 +5,7 @@ use borrow.Author.Needs.{needs}
 use Rattle.machine.specs.State.{place}
 use Rattle.machine.specs.Run.{steps}
 use Rattle.laws.proofs.Turns.{spent, last, not-done}
-use Rattle.stretch.proofs.Reaching.{none-done, joined}
-use Rattle.zpu.proofs.Stepped.{SoFar, stepped}
+use Rattle.stretch.proofs.Reaching.{none-done, joined, SoFar, stepped}
 use Rattle.zpu.proofs.run_from.Statement.{statement}
 use Rattle.zpu.proofs.run_from.Tie as tie
 
@@ -36,6 +35,13 @@ stretch-requires c κs =
     let u = x .before .before .before .before .before .before .before .before .loop .inv in
     stepped u (d .ensures) (x .before .answer .given .1) (d .kept .1 .0) (omega arith) .ready
 
+loop-again-2 : tie.Need-loop-again-2 Inv-loop μ-loop
+loop-again-2 c =
+    let x = c .before in
+    let d = x .before .before .before .before .before .step in
+    let u = x .before .before .before .before .before .before .before .before .loop .inv in
+    stepped u (d .ensures) (x .before .answer .given .1) (d .kept .1 .0) (omega arith)
+
 loop-again : tie.Need-loop-again Inv-loop μ-loop
 loop-again c =
     let x = c .before .before .before .before .before .before in
@@ -48,13 +54,6 @@ loop-again c =
       reaches = joined (v .reaches) (w .ensures .1);
       same-length = w .kept .1 .0 ∙ v .same-length;
     }
-
-loop-again-2 : tie.Need-loop-again-2 Inv-loop μ-loop
-loop-again-2 c =
-    let x = c .before in
-    let d = x .before .before .before .before .before .step in
-    let u = x .before .before .before .before .before .before .before .before .loop .inv in
-    stepped u (d .ensures) (x .before .answer .given .1) (d .kept .1 .0) (omega arith)
 
 returns-2 : tie.Need-returns-2 Inv-loop μ-loop
 returns-2 c =

@@ -5,8 +5,8 @@ use Rattle.machine.proofs.State.answer.Tie as tie
 pub answer-spec : {M : Type 1} → statement M
 answer-spec =
     tie.close
-    (tie.spec (λ c. search needs) (λ c κs. search needs) (λ c. search needs) (λ c κs. search needs) (λ c. search needs)
-    (λ c κs. search needs) (λ c. search needs) (λ c κs. search needs) (λ c. search needs)
+    (tie.spec (λ c κs. search needs) (λ c. search needs) (λ c κs. search needs) (λ c. search needs) (λ c κs. search needs)
+    (λ c. search needs) (λ c κs. search needs) (λ c. search needs) (λ c. search needs)
     (λ c. rw (c .before .before .way .given .1) (cc)) (λ c. rw (c .before .before .way2 .given .1) (cc))
     (λ c. rw (c .before .before .way3 .given .1) (cc))
-    (λ c. rw (c .before .enum-told .given .1) (cc)) (λ c. rw (c .before .way4 .given .1) (cc)))
+    (λ c. rw (c .enum-told .given .1) (cc)) (λ c. rw (c .before .way4 .given .1) (cc)))

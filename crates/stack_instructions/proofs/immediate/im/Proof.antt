@@ -9,7 +9,7 @@ unfolding effectOf row
 returns-2 c =
     let a = c .before .before .before .before .before .before .before in
     rw (left-out (a .args .s .flag) (c .before .before .before .before .before .if1 .left) _ _)
-    (record { answer = cc; memory = cc })
+    (rw (c .before .before .before .extended .ensures) at (c .before .before .push .ensures))
 
 pub im-spec : {M : Type 1} → statement M
 im-spec =

@@ -9,7 +9,7 @@ returns-2 : tie.Need-returns-2
 unfolding effectOf row
 returns-2 c =
     let a = c .before .before .before .before .before .before .before .before .before .before .before .before .args in
-    word-there (a .n) _ (omega arith) (record { answer = cc; memory = cc })
+    word-there (a .n) _ (omega arith) (rw (c .before .before .before .before .read-word .ensures) at (c .before .before .push .ensures))
 
 pub loadsp-spec : {M : Type 1} → statement M
 unfolding effectOf row

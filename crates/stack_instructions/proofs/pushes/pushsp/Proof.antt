@@ -7,4 +7,4 @@ pub pushsp-spec : {M : Type 1} → statement M
 unfolding effectOf row
 pushsp-spec =
     tie.close (tie.spec (λ c κs. search needs) (λ c κs. search needs) (λ c. search needs)
-    (λ c. record { answer = cc; memory = cc }))
+    (λ c. rw (c .before .before .before .byte .ensures) at (c .before .before .push .ensures)))
