@@ -24,4 +24,4 @@ carry-out-spec =
     (λ c. search needs)
     (λ c. let x = c .before .before .before .before in let a = x .before .before .before .before in
     did (of _ (a .pre .1) Addsp (x .before .enum-told4 .given .1) (a .args .core)) (x .if4 .left) (c .before .before .addsp .ensures))
-    (λ c. search needs) (λ c. search needs))
+    (λ c. search needs) (λ c. c .before .before .operations .ensures))

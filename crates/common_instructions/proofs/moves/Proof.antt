@@ -18,4 +18,4 @@ moves-spec =
     (λ c. search needs)
     (λ c. let x = c .before .before in let a = x .before .before .before .before in
     did (of _ (a .pre .1) Poppc (x .before .enum-told3 .given .1) (a .args .core)) (x .if3 .left) (c .poppc .ensures))
-    (λ c. search needs) (λ c. search needs))
+    (λ c. search needs) (λ c. c .before .before .from-32 .ensures))

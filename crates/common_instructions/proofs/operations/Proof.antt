@@ -25,4 +25,4 @@ operations-spec =
     (λ c. search needs)
     (λ c. let x = c .before .before .before .before in let a = x .before .before .before .before in
     did (of _ (a .pre .1) Flip (x .before .enum-told5 .given .1) (a .args .core)) (x .if5 .left) (c .before .before .unary2 .ensures))
-    (λ c. search needs) (λ c. search needs))
+    (λ c. search needs) (λ c. c .before .before .moves .ensures))
