@@ -1,6 +1,7 @@
 // The instructions that programs are mostly made of, told by the class of a byte. What is none of them is left alone, and so is
 // everything where the run is to pause: the way is then a refusal by LIMIT, which no instruction gives. Each arm tests for that by
-// itself, for speed (docs/CHANGING.md); the functions are four so that none is long, and the compiler makes one match of theirs.
+// itself, for speed (docs/CHANGING.md). Four functions hand on to one another so that none is long; the compiler makes one match
+// of theirs.
 use arithmetic::BinOp;
 use arithmetic::UnOp;
 use classes::Class;
