@@ -1,23 +1,23 @@
 -- A core instruction: both cores have the same effect.
 use Prim.Native.Nat.{ℕ, _≤_, _<_}
-use mathlib.Core.Path.{_≡_, _∙_}
+use mathlib.Core.Path.{_≡_, refl, _∙_}
 use mathlib.Core.Bool.{_||_}
-use mathlib.Core.List.{List}
 use mathlib.Core.Option.{some}
 use native.Mathlib.Omega.{arith}
 use native.Mathlib.Decide.{decLt}
 use borrow.Author.Tests.{lt-ltb, le-ltb}
 use lib.Dec.{T, ltb, leb, leb→le}
 use Rattle.machine.specs.declared.Core.the-variants.{Narrow, Wide}
-use Rattle.machine.specs.State.{Place, place, fetched}
-use Rattle.machine.specs.Effects.{memoryAfter, landed}
+use Rattle.machine.specs.State.{Place, fetched}
+use Rattle.machine.specs.Effects.{Effect, landed}
 use Rattle.machine.specs.Instructions.{decode}
 use Rattle.machine.specs.Table.{stepOf}
 use Rattle.laws.proofs.Steps.{Goes, goes-on, one-step}
-use Rattle.demand3.specs.Dirt.{Dirt, dirtied}
+use Rattle.emulation.specs.Emulation.{Alike}
+use Rattle.demand3.specs.Dirt.{Dirt, clean}
 use Rattle.demand3.specs.Demand3.{Allowed, isCore}
-use Rattle.demand3.proofs.Alike.{Alike, Tracks, after}
 use Rattle.demand3.proofs.Dependence.{same-step}
+use Rattle.demand3.proofs.Matched.{Matched}
 
 same-decode : (b : ℕ) → T (isCore b) → decode Narrow b ≡ decode Wide b
 unfolding decode
@@ -34,16 +34,23 @@ same-core : (x : Place) → T (isCore (fetched x)) → stepOf Narrow x ≡ stepO
 unfolding stepOf
 same-core x h = rw (same-decode (fetched x) h)
 
-pub core-step : {p : Place} {d : Dirt} {m′ : List ℕ} → Alike d (p .memory) m′ → Allowed p d → Goes (stepOf Wide p) → T (isCore (fetched p))
-    → Tracks 1 (landed (stepOf Wide p) p) (dirtied (stepOf Wide p) p d) (place m′ (p .state))
-core-step {p} {d} {m′} E F g c =
-    let x : Place = place m′ (p .state) in
-    let same-byte : fetched x ≡ fetched p = E .same-bytes (p .state .pc .0) (F .fetch-clean) in
-    let same : stepOf Narrow x ≡ stepOf Wide p = same-core x (rw same-byte c) ∙ same-step E F in
+pub core-step : {p x : Place} {d : Dirt} → Alike d p x → Allowed p d → Goes (stepOf Wide p) → T (isCore (fetched p))
+    → Matched (stepOf Wide p) p d x
+core-step {p} {x} {d} E F g c =
+    let e : Effect = stepOf Wide p in
+    let same-byte : fetched x ≡ fetched p = rw (E .same-state) (E .same-bytes (p .state .pc .0) (F .fetch-clean)) in
+    let same : stepOf Narrow x ≡ e = same-core x (rw same-byte c) ∙ same-step E F in
     record {
-      count = 1;
-      within-bound = omega arith;
-      memory = memoryAfter m′ (stepOf Wide p);
-      reached = one-step Narrow x _ (rw same (goes-on (stepOf Wide p) x some g));
-      alike = after E p (stepOf Wide p) g (F .page-kept);
+      bound = 1;
+      few = omega arith;
+      left = clean;
+      reaches = record {
+        count = 1;
+        within-bound = omega arith;
+        end = landed e x;
+        reached = one-step Narrow x _ (rw same (goes-on e x some g));
+        alike = record { same-state = refl; same-length = refl; same-bytes = λ a h. refl };
+      };
+      dirty = λ a h. refl;
+      off-page = λ a h. refl;
     }

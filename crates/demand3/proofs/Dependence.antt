@@ -8,15 +8,24 @@ use Rattle.memory.specs.Memory.{getBytes}
 use Rattle.memory.proofs.Memory.{read-alike}
 use Rattle.machine.specs.declared.Core.the-variants.{Wide}
 use Rattle.machine.specs.declared.State.{State}
-use Rattle.machine.specs.State.{Place, place}
+use Rattle.machine.specs.State.{Place}
 use Rattle.machine.specs.Effects.{Effect}
 use Rattle.machine.specs.Instructions.{Instr, Instr.IM, Instr.STORESP, Instr.LOADSP, Instr.EMULATE, Instr.ADDSP, Instr.PUSHSP, Instr.POPSP, Instr.POPPC, Instr.NOP, Instr.BREAK, Instr.ILLEGAL, Instr.PUSHSPADD, Instr.CALL, Instr.CALLPCREL, Instr.POPPCREL, Instr.PUSHPC, Instr.NEQBRANCH, Instr.EQBRANCH, Instr.unary, Instr.binary, Instr.division, Instr.load, Instr.store}
 use Rattle.machine.specs.Table.{Act.goes, Row, B, row, reading, doing, effectOf, stepOf}
+use Rattle.emulation.specs.Emulation.{Alike}
 use Rattle.demand3.specs.Dirt.{Dirt}
 use Rattle.demand3.specs.Demand3.{spans, Clean, AllClean, Allowed}
-use Rattle.demand3.proofs.Alike.{Alike}
 
-module _ {d : Dirt} {m m′ : List ℕ} (E : Alike d m m′) (s : State) where
+module _ {d : Dirt} {p x : Place} (E : Alike d p x) where
+  abbrev s : State
+  s = p .state
+
+  abbrev m : List ℕ
+  m = p .memory
+
+  abbrev m′ : List ℕ
+  m′ = x .memory
+
   abbrev carried : List ℕ → Row → Effect
   carried n r = reading n s (r .reads) (doing n s (r .act))
 
@@ -60,8 +69,8 @@ module _ {d : Dirt} {m m′ : List ℕ} (E : Alike d m m′) (s : State) where
   same-effect (load w) c = rw (E .same-length, read _ _ (c .0), read _ _ (c .1 .0))
   same-effect (store w) c = rw (E .same-length, read _ _ (c .0), read _ _ (c .1 .0))
 
--- so a wide step has one effect on memories that are alike
-pub same-step : {p : Place} {d : Dirt} {m′ : List ℕ} → Alike d (p .memory) m′ → Allowed p d
-    → stepOf Wide (place m′ (p .state)) ≡ stepOf Wide p
+-- so a wide step has one effect at places that are alike
+pub same-step : {d : Dirt} {p x : Place} → Alike d p x → Allowed p d → stepOf Wide x ≡ stepOf Wide p
 unfolding stepOf
-same-step {p} E F = rw (E .same-length, E .same-bytes (p .state .pc .0) (F .fetch-clean), same-effect E (p .state) _ (F .reads-clean))
+same-step {p = p} E F =
+    rw (E .same-state, E .same-length, E .same-bytes (p .state .pc .0) (F .fetch-clean), same-effect E _ (F .reads-clean))

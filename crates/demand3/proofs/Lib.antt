@@ -1,8 +1,6 @@
-pub mod Between
-pub mod Window
-pub mod Emulation
 pub mod Alike
 pub mod Dependence
+pub mod Matched
 pub mod CoreStep
 pub mod ShortStep
 pub mod Theorem

@@ -1,82 +1,118 @@
 -- Demand 3 holds.
-use Prim.Native.Nat.{ℕ, zero, suc, _+_, _-_, _*_}
+use Prim.Native.Nat.{ℕ, zero, suc, _+_, _-_, _*_, _≤_, _<_, min}
 use mathlib.Core.Path.{_≡_, refl, sym, ap, _∙_}
-use mathlib.Core.Bool.{Bool, true, false}
+use mathlib.Core.Bool.{Bool, true, false, not, _&&_, _||_}
 use mathlib.Core.List.{List}
 use mathlib.Core.Option.{some}
 use native.Mathlib.Omega.{arith}
-use lib.ListN.{length, getD}
-use lib.Seq.{getD-take}
+use lib.ListN.{length, getD, take, length-take}
+use lib.Seq.{getD-take, ext-getD}
 use lib.Dec.{T}
-use Rattle.memory.proofs.Lengths.{good}
+use Rattle.memory.proofs.Tests.{holds}
+use Rattle.memory.proofs.Memory.{Outside, Bytes, outside-same, written-bytes}
 use Rattle.machine.specs.declared.Core.the-variants.{Narrow, Wide}
-use Rattle.machine.specs.State.{Place, place, fetched}
-use Rattle.machine.specs.Effects.{landed}
+use Rattle.machine.specs.State.{Place, fetched}
+use Rattle.machine.specs.Effects.{Effect, Effect.refuse, Effect.stop, Effect.go, memoryAfter, stateAfter, landed}
 use Rattle.machine.specs.Table.{stepOf}
 use Rattle.machine.specs.Run.{steps}
-use Rattle.laws.proofs.Steps.{Goes, first-step, no-step, steps-add}
-use Rattle.routines.specs.Constants.{pageLength}
-use Rattle.demand3.specs.Dirt.{Dirt, clean, isShort, dirtied, between, below}
-use Rattle.demand3.specs.Demand3.{WithPage, Allowed, AllAllowed, dirtAfter, Demand3, isCore}
-use Rattle.demand3.proofs.Alike.{Alike, Tracks}
+use Rattle.laws.proofs.Steps.{Goes, first-step, no-step, steps-add, steps-keep, steps-length}
+use Rattle.routines.specs.Constants.{pageLength, stepBound}
+use Rattle.emulation.specs.Left.{between, writes, leaves}
+use Rattle.emulation.specs.Emulation.{WithPage, Alike, Reached}
+use Rattle.emulation.proofs.Between.{not-between}
+use Rattle.demand3.specs.Dirt.{Dirt, clean, isShort, dirtied}
+use Rattle.demand3.specs.Demand3.{Allowed, AllAllowed, dirtAfter, Demand3, isCore}
+use Rattle.demand3.proofs.Alike.{after, joined}
+use Rattle.demand3.proofs.Matched.{Matched}
 use Rattle.demand3.proofs.CoreStep.{core-step}
-use Rattle.demand3.proofs.ShortStep.{the-short, short-step}
+use Rattle.demand3.proofs.ShortStep.{short-step}
 
 -- any allowed step
-any-step : {p : Place} {d : Dirt} {m′ : List ℕ} → Alike d (p .memory) m′ → Allowed p d → Goes (stepOf Wide p)
-    → Tracks 1 (landed (stepOf Wide p) p) (dirtied (stepOf Wide p) p d) (place m′ (p .state))
-any-step {p} {d} {m′} E F g = by (isCore (fetched p)) refl
+any-step : {d : Dirt} {p x : Place} → Alike d p x → Allowed p d → Goes (stepOf Wide p) → WithPage x → Matched (stepOf Wide p) p d x
+any-step {d} {p} {x} E F g S = by (isCore (fetched p)) refl
   where
-    by : (t : Bool) → isCore (fetched p) ≡ t → Tracks 1 (landed (stepOf Wide p) p) (dirtied (stepOf Wide p) p d) (place m′ (p .state))
+    by : (t : Bool) → isCore (fetched p) ≡ t → Matched (stepOf Wide p) p d x
     by true e = core-step E F g (rw e tt)
-    by false e =
-        let short : T (isShort (fetched p)) = rw e at (F .core-or-short) in
-        let (o, member, here) = the-short (fetched p) short in
-        short-step E F g short member here
+    by false e = short-step E F g (rw e at (F .core-or-short)) S
+
+-- an effect that keeps off the page leaves its bytes
+page-bytes : (m : List ℕ) (e : Effect) → ((a : ℕ) → T (writes e a) → pageLength ≤ a) → (a : ℕ) → a < pageLength
+    → getD (memoryAfter m e) a 0 ≡ getD m a 0
+page-bytes m (refuse o) k a h = refl
+page-bytes m (stop t) k a h = refl
+page-bytes m (go t b n v) k a h = outside-same m b n v a (off (between b (b + n) a) refl)
+  where
+    off : (t : Bool) → between b (b + n) a ≡ t → Outside b (b + n) a
+    off true e = absurd (omega (arith, k a (holds e)))
+    off false e = not-between b (b + n) a e
+
+same-page : (m m′ : List ℕ) → length m′ ≡ length m → ((a : ℕ) → a < pageLength → getD m′ a 0 ≡ getD m a 0)
+    → take pageLength m′ ≡ take pageLength m
+same-page m m′ l h =
+    ext-getD 0 (take pageLength m′) (take pageLength m)
+    (length-take pageLength m′ ∙ ap (min pageLength) l ∙ sym (length-take pageLength m))
+    (λ i k.
+    let j : i < pageLength = omega (arith, length-take pageLength m′) in
+    getD-take pageLength m′ i 0 j ∙ h i j ∙ sym (getD-take pageLength m i 0 j))
+
+module _ {d : Dirt} {p x : Place} (E : Alike d p x) (F : Allowed p d) (g : Goes (stepOf Wide p)) (S : WithPage x) where
+  abbrev e : Effect
+  e = stepOf Wide p
+
+  one : Matched e p d x
+  one = any-step E F g S
+
+  -- where the narrow core is after it
+  abbrev y : Place
+  y = one .reaches .end
+
+  still-alike : Alike (dirtied e p d) (landed e p) y
+  still-alike = joined (one .reaches .alike) (after E e g) (one .dirty)
+
+  same-length : length (y .memory) ≡ length (x .memory)
+  same-length = steps-length Narrow (one .reaches .count) x y (one .reaches .reached)
+
+  still-paged : WithPage y
+  still-paged = record {
+    good-length = rw same-length (S .good-length);
+    bytes = steps-keep Narrow Bytes written-bytes (one .reaches .count) x y (one .reaches .reached) (S .bytes);
+    page-in-place =
+        same-page (x .memory) (y .memory) same-length
+        (λ a h. one .reaches .alike .same-bytes a (one .off-page a h) ∙ page-bytes (x .memory) e (F .page-kept) a h)
+        ∙ S .page-in-place;
+  }
 
 -- n of them
-tracks : (n : ℕ) (p q : Place) (d : Dirt) (m′ : List ℕ) → steps Wide n p ≡ some q → AllAllowed n p d → Alike d (p .memory) m′
-    → Tracks n q (dirtAfter n p d) (place m′ (p .state))
+follows : (n : ℕ) (p q : Place) (d : Dirt) (x : Place) → steps Wide n p ≡ some q → AllAllowed n p d → Alike d p x → WithPage x
+    → Reached (stepBound * n) x q (dirtAfter n p d)
 unfolding AllAllowed dirtAfter
-tracks zero p q d m′ r F E =
+follows zero p q d x r F E S =
     let same : some p ≡ some q = sym (no-step Wide p) ∙ r in
     let p≡q : p ≡ q = cc in
-    rw (← p≡q) (record { count = 0; within-bound = omega arith; memory = m′; reached = no-step Narrow _; alike = E })
-tracks (suc n) p q d m′ r F E =
+    rw (← p≡q) (record { count = 0; within-bound = omega arith; end = x; reached = no-step Narrow x; alike = E })
+follows (suc n) p q d x r F E S =
     let e = stepOf Wide p in
     let (g, rest) = first-step Wide n p r in
-    let f = any-step E (F .0) g in
-    let t = tracks n (landed e p) q (dirtied e p d) (f .memory) rest (F .1) (f .alike) in
+    let o = one E (F .0) g S in
+    let f = o .reaches in
+    let t = follows n (landed e p) q (dirtied e p d) (f .end) rest (F .1) (still-alike E (F .0) g S) (still-paged E (F .0) g S) in
     record {
       count = f .count + t .count;
-      within-bound = omega (arith, f .within-bound, t .within-bound);
-      memory = t .memory;
-      reached = steps-add Narrow (f .count) (t .count) (place m′ (p .state)) _ (f .reached) ∙ t .reached;
+      within-bound = omega (arith, o .few, f .within-bound, t .within-bound);
+      end = t .end;
+      reached = steps-add Narrow (f .count) (t .count) x (f .end) (f .reached) ∙ t .reached;
       alike = t .alike;
     }
 
-begins : {p : Place} → WithPage p → Alike clean (p .memory) (p .memory)
-begins {p} S = record {
-  same-length = refl;
-  not-over = good (length (p .memory)) (S .good-length) .not-over;
-  same-bytes = λ a h. refl;
-  bytes = S .bytes;
-  paged = λ x h. sym (getD-take pageLength (p .memory) x 0 h) ∙ ap (λ (l : List ℕ). getD l x 0) (S .page-in-place);
-}
-
 pub demand3 : Demand3
 demand3 n p q S R =
-    let t = tracks n p q clean (p .memory) (R .none-stops) (R .all-allowed) (begins S) in
-    record {
-      count = t .count;
-      within-bound = t .within-bound;
-      end = place (t .memory) (q .state);
-      reached = t .reached;
-      same-state = refl;
-      same-length = t .alike .same-length;
-      same-bytes = t .alike .same-bytes;
-    }
+    follows n p q clean p (R .none-stops) (R .all-allowed) (record { same-state = refl; same-length = refl; same-bytes = λ a h. refl }) S
 
--- the words of dirt are the paper's: the 16 directly below the sp at its start
-pub sixteen-below : (sp x : ℕ) → below sp x ≡ between (4 * (sp - 16)) (4 * sp) x
-sixteen-below sp x = refl
+-- the words of dirt are the paper's: the 16 directly below the sp at its start, and those between the old and the new sp
+pub sixteen-below : (e : Effect) (p : Place) (d : Dirt) (x : ℕ)
+    → let old : ℕ = p .state .sp .0 in
+    let new : ℕ = stateAfter (p .state) e .sp .0 in
+    dirtied e p d x
+    ≡ not (writes e x) && (d x || isShort (fetched p) && (between (4 * (old - 16)) (4 * old) x || between (4 * old) (4 * new) x))
+unfolding dirtied leaves
+sixteen-below e p d x = refl

@@ -4,27 +4,20 @@
 -- the same program counter, stack pointer, immediate flag and every byte that isn't dirty.
 use Prim.Native.Nat.{ℕ, zero, suc, _+_, _*_, _≤_, _<_}
 use mathlib.Core.Path.{_≡_}
-use mathlib.Core.Bool.{Bool, true, false, _||_}
+use mathlib.Core.Bool.{Bool, false, _||_}
 use mathlib.Core.List.{List, [], _∷_, _++_, map}
 use mathlib.Core.Option.{some}
-use lib.ListN.{length, getD, take}
 use lib.Dec.{T, ltb, leb}
-use Rattle.memory.specs.Memory.{goodLength}
-use Rattle.machine.specs.declared.Core.the-variants.{Narrow, Wide}
+use Rattle.machine.specs.declared.Core.the-variants.{Wide}
 use Rattle.machine.specs.State.{Place, fetched}
 use Rattle.machine.specs.Effects.{landed}
 use Rattle.machine.specs.Instructions.{decode}
 use Rattle.machine.specs.Table.{Row, row, stepOf}
 use Rattle.machine.specs.Run.{steps}
 use Rattle.routines.specs.Constants.{pageLength, firstStackWord, freeWords, stepBound}
-use Rattle.routines.specs.Page.{page}
-use Rattle.demand3.specs.Dirt.{Dirt, clean, isShort, writes, dirtied}
-
--- a start with our microcode page in place
-pub record WithPage (p : Place) : Type 0 where
-  pub good-length : goodLength (length (p .memory)) ≡ true
-  pub bytes : (a : ℕ) → getD (p .memory) a 0 < 256
-  pub page-in-place : take pageLength (p .memory) ≡ page
+use Rattle.emulation.specs.Left.{writes}
+use Rattle.emulation.specs.Emulation.{WithPage, Reached}
+use Rattle.demand3.specs.Dirt.{Dirt, clean, isShort, dirtied}
 
 -- a core instruction: none of the bytes 32 to 63
 abbrev pub isCore : ℕ → Bool
@@ -68,15 +61,5 @@ pub record WideRun (n : ℕ) (p q : Place) : Type 0 where
   pub none-stops : steps Wide n p ≡ some q
   pub all-allowed : AllAllowed n p clean
 
--- the narrow core reaches from p the state of q and every byte of q that is not dirty
-pub record Reached (n : ℕ) (p q : Place) (d : Dirt) : Type 0 where
-  pub count : ℕ
-  pub within-bound : count ≤ stepBound * n
-  pub end : Place
-  pub reached : steps Narrow count p ≡ some end
-  pub same-state : end .state ≡ q .state
-  pub same-length : length (end .memory) ≡ length (q .memory)
-  pub same-bytes : (a : ℕ) → d a ≡ false → getD (end .memory) a 0 ≡ getD (q .memory) a 0
-
 abbrev pub Demand3 : Type 0
-Demand3 = (n : ℕ) (p q : Place) → WithPage p → WideRun n p q → Reached n p q (dirtAfter n p clean)
+Demand3 = (n : ℕ) (p q : Place) → WithPage p → WideRun n p q → Reached (stepBound * n) p q (dirtAfter n p clean)

@@ -34,12 +34,15 @@ caseFrom l bs from stack n pc sp top =
 abbrev case : ℕ → List ℕ → ℕ → ℕ → ℕ → ℕ → Case
 case l bs = caseFrom l bs pageLength (l / 4)
 
+-- LESSTHAN with A = 80000000 and B = 1, and sp = 528: its 16 free words are the first above the page
+abbrev pub noWordToSpare : Case
+noWordToSpare = caseFrom 2560 (replicate 64 0 ++ (128 ∷ 0 ∷ 0 ∷ 0 ∷ 0 ∷ 0 ∷ 0 ∷ 1 ∷ 36 ∷ [])) 2120 528 1 2121 529 1
+
 unfoldable pub cases : List Case
 cases =
     -- LESSTHAN with A = 80000000 and B = 1
     case 2560 (129 ∷ 11 ∷ 248 ∷ 128 ∷ 128 ∷ 128 ∷ 128 ∷ 36 ∷ []) 8 2056 639 1
-    -- the same with sp = 528: its 16 free words are the first above the page
-    ∷ caseFrom 2560 (replicate 64 0 ++ (128 ∷ 0 ∷ 0 ∷ 0 ∷ 0 ∷ 0 ∷ 0 ∷ 1 ∷ 36 ∷ [])) 2120 528 1 2121 529 1
+    ∷ noWordToSpare
     -- LESSTHANOREQUAL to SUB and XOR, with B = 5 and A = 3
     ∷ case 2560 (133 ∷ 11 ∷ 131 ∷ 37 ∷ []) 4 2052 639 1
     ∷ case 2560 (133 ∷ 11 ∷ 131 ∷ 38 ∷ []) 4 2052 639 1

@@ -3,6 +3,7 @@ use Prim.Native.Nat.{ℕ, zero, suc, _+_, _-_, _*_, _≤_, _<_}
 use mathlib.Core.Path.{_≡_, refl, _∙_}
 use mathlib.Core.Bool.{Bool, true, false, not, _&&_, _||_}
 use mathlib.Core.List.{List, [], _∷_, _++_}
+use mathlib.Core.Logic.{inl, inr}
 use mathlib.Core.Option.{Option, none, some}
 use native.Mathlib.Omega.{arith}
 use native.Mathlib.Nat.{not-suc-le-zero}
@@ -22,14 +23,17 @@ use Rattle.machine.specs.Effects.{Effect, Effect.refuse, Effect.stop, Effect.go
 use Rattle.machine.specs.Instructions.{decode, below32, below64}
 use Rattle.machine.specs.Table.{row, effectOf, stepOf}
 use Rattle.machine.specs.Run.{steps}
-use Rattle.routines.specs.Constants.{pageLength, firstStackWord, freeWords}
+use Rattle.routines.specs.Constants.{pageLength, firstStackWord, freeWords, stepBound}
 use Rattle.routines.specs.Page.{page}
 use Rattle.routines.proofs.Rule.{page-length}
-use Rattle.demand3.specs.Dirt.{Dirt, clean, isShort, writes, leaves, dirtied}
-use Rattle.demand3.specs.Demand3.{WithPage, isCore, spans, Clean, AllClean, Allowed, AllAllowed, dirtAfter, WideRun, Reached}
-use Rattle.demand3.proofs.Between.{is-between}
+use Rattle.emulation.specs.Left.{writes, leaves}
+use Rattle.emulation.specs.Emulation.{WithPage, Reached, dirt}
+use Rattle.emulation.proofs.Between.{is-between}
+use Rattle.emulation.proofs.Theorem.{emulates}
+use Rattle.demand3.specs.Dirt.{Dirt, clean, isShort, dirtied}
+use Rattle.demand3.specs.Demand3.{isCore, spans, Clean, AllClean, Allowed, AllAllowed, dirtAfter, WideRun}
 use Rattle.demand3.proofs.Theorem.{demand3}
-use Rattle.demand3_instances.proofs.Cases.{Case, start, cases}
+use Rattle.demand3_instances.proofs.Cases.{Case, start, noWordToSpare, cases}
 
 -- the hypotheses as tests
 abbrev isClean : Dirt → ℕ → ℕ → Bool
@@ -148,12 +152,13 @@ are-bytes m h a =
 
 -- what the wide core reaches, and that the narrow core follows there
 pub record Instance (c : Case) : Type 0 where
+  pub start-paged : WithPage (start c)
   pub end : Place
   pub run : WideRun (c .count) (start c) end
   pub counter : end .state .pc .0 ≡ c .counter
   pub sp : end .state .sp .0 ≡ c .sp
   pub top : word (end .memory) (c .sp) ≡ c .top
-  pub follows : Reached (c .count) (start c) end (dirtAfter (c .count) (start c) clean)
+  pub follows : Reached (stepBound * c .count) (start c) end (dirtAfter (c .count) (start c) clean)
   pub narrow-top : word (follows .end .memory) (c .sp) ≡ c .top
 
 arrived : (c : Case) → WithPage (start c) → AllAllowed (c .count) (start c) clean
@@ -166,13 +171,14 @@ arrived c S F k (some q) e h =
     let f = demand3 (c .count) (start c) q S r in
     let top : word (q .memory) (c .sp) ≡ c .top = eqb-true _ _ (t 2 (lit< tt)) in
     record {
+      start-paged = S;
       end = q;
       run = r;
       counter = eqb-true _ _ (t 0 (lit< tt));
       sp = eqb-true _ _ (t 1 (lit< tt));
       top = top;
       follows = f;
-      narrow-top = read-alike (q .memory) (f .end .memory) (4 * c .sp) 4 (λ j l. f .same-bytes (4 * c .sp + j) (k j l)) ∙ top;
+      narrow-top = read-alike (q .memory) (f .end .memory) (4 * c .sp) 4 (λ j l. f .alike .same-bytes (4 * c .sp + j) (k j l)) ∙ top;
     }
 
 pub instances : {c : Case} → In c cases → Instance c
@@ -186,3 +192,15 @@ instances {c} i =
     arrived c S (are-allowed (c .count) (start c) clean (t 2 (lit< tt)))
     (is-clean (dirtAfter (c .count) (start c) clean) (4 * c .sp) 4 (t 4 (lit< tt)))
     (steps Wide (c .count) (start c)) refl (t 3 (lit< tt))
+
+-- LESSTHAN by itself
+pub lone : Instance noWordToSpare
+unfolding cases
+lone = instances (inr (inl refl))
+
+-- the hypotheses of what it owes hold, too
+pub less-than-owes : Reached 23 (start noWordToSpare) (lone .end) (dirt 5 (start noWordToSpare) (lone .end))
+unfolding page
+less-than-owes =
+    emulates {o = record { byte = 36; steps = 23; words = 5 }} (inl refl) (start noWordToSpare) (lone .end) (lone .start-paged)
+    refl (omega arith) (lone .run .none-stops)

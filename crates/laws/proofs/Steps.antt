@@ -1,12 +1,16 @@
 -- Steps in order: n steps and then m are n + m, and a run follows them.
 use Prim.Native.Nat.{ℕ, zero, suc, _+_}
 use mathlib.Core.Path.{_≡_, refl, ap, _∙_}
+use mathlib.Core.List.{List}
 use mathlib.Core.Option.{Option, none, some}
 use native.Mathlib.Nat.{add-zero, zero-add, suc-add}
 use native.Mathlib.Omega.{arith}
+use lib.ListN.{length}
+use Rattle.memory.specs.Memory.{setBytes}
+use Rattle.memory.proofs.Memory.{length-setBytes}
 use Rattle.machine.specs.declared.Core.{Core}
 use Rattle.machine.specs.State.{Place}
-use Rattle.machine.specs.Effects.{Effect, Effect.refuse, Effect.stop, Effect.go, landed}
+use Rattle.machine.specs.Effects.{Effect, Effect.refuse, Effect.stop, Effect.go, memoryAfter, landed}
 use Rattle.machine.specs.Run.{Ran, onward, steps, after, runFrom}
 use Rattle.machine.specs.Table.{stepOf}
 
@@ -56,6 +60,23 @@ module _ (core : Core) where
   steps-add (suc n) m p q h =
       let (g, rest) = went (stepOf core p) p (steps core n) h in
       rw suc-add (goes-on (stepOf core p) p (steps core (n + m)) g ∙ steps-add n m (landed (stepOf core p) p) q rest)
+
+  -- what every write keeps, steps keep
+  pub steps-keep : (P : List ℕ → Type 0) → ((m : List ℕ) (a k v : ℕ) → P m → P (setBytes m a k v)) → (n : ℕ) (p q : Place)
+      → steps core n p ≡ some q → P (p .memory) → P (q .memory)
+  unfolding steps
+  steps-keep P write zero p q h x = let e : p ≡ q = cc in rw e at x
+  steps-keep P write (suc n) p q h x =
+      let (g, rest) = went (stepOf core p) p (steps core n) h in
+      steps-keep P write n (landed (stepOf core p) p) q rest (kept (stepOf core p))
+    where
+      kept : (e : Effect) → P (memoryAfter (p .memory) e)
+      kept (refuse o) = x
+      kept (stop t) = x
+      kept (go t a k v) = write (p .memory) a k v x
+
+  pub steps-length : (n : ℕ) (p q : Place) → steps core n p ≡ some q → length (q .memory) ≡ length (p .memory)
+  steps-length n p q h = steps-keep (λ m. length m ≡ length (p .memory)) (λ m a k v e. length-setBytes m a k v ∙ e) n p q h refl
 
   -- n steps done, and the run goes on from there with the count at c + n
   pub run-follows : (n k c : ℕ) (p q : Place) → steps core n p ≡ some q → runFrom core (n + k) c p ≡ runFrom core k (c + n) q

@@ -12,7 +12,7 @@ use Rattle.arithmetic.specs.Operations.{unaryOf, binaryOf}
 use Rattle.arithmetic.specs.declared.UnOp.the-variants.{Not, Flip, Neg}
 use Rattle.arithmetic.specs.declared.BinOp.the-variants.{Add, And, Or, Eq, Neq, Sub, Xor}
 use Rattle.arithmetic.proofs.Bounds.{unary-lt, binary-lt}
-use Rattle.routines.proofs.Frame.{depth, address}
+use Rattle.frame.proofs.Frame.{address}
 use Rattle.routines.proofs.Words.{top-or, topBit, top-bit, low-not, wrap-left, wrap-right}
 
 -- what EQ, NEQ and NEQBRANCH share: whether x is 0
@@ -85,8 +85,9 @@ branch {a} {b} c e h k = rw (nonzero k, e) (by (eqb b 0))
     by true = unfold binaryOf unaryOf in (rw (and-zero-r (wrap (4294967295 + a))) (omega arith))
     by false = unfold binaryOf unaryOf in (rw (and-mask (wrap (4294967295 + a)) 32) (back c))
 
-pub stack-address : (base : ℕ) {a : ℕ} → a < 2 ^ 32
-    → binaryOf Add 8 (binaryOf Add (address base (depth - 2)) (binaryOf Add (binaryOf Add a a) (binaryOf Add a a)))
-    ≡ wrap (4 * (base + depth) + 4 * a)
+-- from a PUSHSP two words lower
+pub stack-address : (base p : ℕ) {a : ℕ} → a < 2 ^ 32
+    → binaryOf Add 8 (binaryOf Add (address base p) (binaryOf Add (binaryOf Add a a) (binaryOf Add a a)))
+    ≡ wrap (4 * (base + (p + 2)) + 4 * a)
 unfolding binaryOf address
-stack-address base {a} h = simp (wrap-left, wrap-right) (ap wrap (omega arith))
+stack-address base p {a} h = simp (wrap-left, wrap-right) (ap wrap (omega arith))

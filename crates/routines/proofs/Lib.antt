@@ -1,8 +1,9 @@
 pub mod Entries
-pub mod Frame
+pub mod Parts
 pub mod Words
 pub mod Comparisons
 pub mod Laws
-pub mod Shorts
+pub mod Straight
+pub mod Runs
 pub mod Numbers
 pub mod Rule

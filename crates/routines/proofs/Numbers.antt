@@ -1,25 +1,24 @@
--- The numbers of demand 3: that they are enough for the routines, and that they are the paper's.
-use Prim.Native.Nat.{ℕ, suc, _+_, _*_, _≤_}
+-- The numbers of demand 3: that they are enough for the short instructions, and that they are the paper's.
+use Prim.Native.Nat.{ℕ, _+_, _*_, _≤_}
 use mathlib.Core.Path.{_≡_, refl}
 use mathlib.Core.Bool.{Bool, true, _&&_}
-use native.Mathlib.Omega.{arith}
-use lib.ListN.{length}
+use borrow.Author.Tests.{leb-true}
 use lib.Dec.{leb}
-use Rattle.memory.proofs.Tests.{every}
+use Rattle.memory.proofs.Tests.{In, both, every, at-entry}
 use Rattle.routines.specs.Constants.{pageLength, firstStackWord, freeWords, stepBound}
-use Rattle.routines.specs.Page.{Short, shorts, code, vector}
-use Rattle.routines.proofs.Frame.{depth}
+use Rattle.routines.specs.Shorts.{Short, shorts}
 
--- each routine ends in the page, and with EMULATE within its own bound, which is within the page's
-abbrev pub fitting : Short → Bool
-fitting o =
-    leb (vector (o .byte) + length (code o)) pageLength && leb (suc (length (code o))) (o .bound) && leb (o .bound) stepBound
+-- the steps of each are within the bound, and its words are among those that are free
+abbrev affordable : Short → Bool
+affordable o = leb (o .steps) stepBound && leb (o .words) freeWords
 
-pub fits : every fitting shorts ≡ true
-fits = refl
+enough : every affordable shorts ≡ true
+enough = refl
 
-pub deep-enough : depth ≤ freeWords
-deep-enough = omega arith
+pub within-both : {o : Short} → In o shorts → (o .steps ≤ stepBound) × (o .words ≤ freeWords)
+within-both {o} i =
+    let (steps, words) = both (leb (o .steps) stepBound) (leb (o .words) freeWords) (at-entry affordable shorts enough i) in
+    (leb-true _ _ steps, leb-true _ _ words)
 
 -- the page is 2,048 bytes
 pub page-bytes : pageLength ≡ 2048

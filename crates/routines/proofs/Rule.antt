@@ -1,5 +1,5 @@
--- The rules of the page: what its bytes are, that the unused ones are 11, and that each routine keeps to its own vector.
-use Prim.Native.Nat.{ℕ, zero, suc, _+_, _≤_, _<_}
+-- The rules of the page: what its bytes are, that the unused ones are 11, and that each part keeps to its own vector.
+use Prim.Native.Nat.{ℕ, zero, suc, _+_, _%_, _≤_, _<_}
 use mathlib.Core.Path.{_≡_, refl, sym, ap, _∙_}
 use mathlib.Core.Logic.{_≢_}
 use mathlib.Core.Bool.{Bool, true, cond, not, _&&_, _||_}
@@ -13,9 +13,8 @@ use Rattle.machine.specs.declared.Core.the-variants.{Narrow}
 use Rattle.machine.specs.Instructions.{decode}
 use Rattle.memory.proofs.Tests.{In, both, every, at-entry, at-each}
 use Rattle.routines.specs.Constants.{pageLength}
-use Rattle.routines.specs.Page.{Short, shorts, page, code, vector}
-use Rattle.routines.proofs.Entries.{same-at}
-use Rattle.routines.proofs.Shorts.{bytesInPage, byte-in-page, codeInPage, in-page}
+use Rattle.routines.specs.Page.{Part, parts, page}
+use Rattle.routines.proofs.Parts.{code, bytesAt, byte-at, same-code}
 
 pub page-length : length page ≡ pageLength
 page-length = unfold page in refl
@@ -48,39 +47,39 @@ at-address f x (b ∷ bs) e (suc j) h =
     let next : suc x + j ≡ x + suc j = omega arith in
     rw next at (at-address f (suc x) bs (both (f x b) (everyFrom f (suc x) bs) e .1) j (le-of-suc-le-suc h))
 
--- address x lies in no routine
-abbrev pub inNoRoutine : ℕ → Bool
-inNoRoutine x = every (λ o. ltb x (vector (o .byte)) || leb (vector (o .byte) + length (code o)) x) shorts
+-- address x lies in no part
+abbrev pub inNoPart : ℕ → Bool
+inNoPart x = every (λ o. ltb x (o .0) || leb (o .0 + length (code (o .1))) x) parts
 
 abbrev elevenIfUnused : ℕ → ℕ → Bool
-elevenIfUnused x b = not (inNoRoutine x) || eqb b 11
+elevenIfUnused x b = not (inNoPart x) || eqb b 11
 
 unused-test : everyFrom elevenIfUnused 0 page ≡ true
 unfolding page
 unused-test = refl
 
 -- unused bytes are 11
-pub unused : (x : ℕ) → x < pageLength → inNoRoutine x ≡ true → getD page x 0 ≡ 11
+pub unused : (x : ℕ) → x < pageLength → inNoPart x ≡ true → getD page x 0 ≡ 11
 unused x h e = eqb-true _ _ (rw (zero-add x, e) at (at-address elevenIfUnused 0 page unused-test x (rw page-length h)))
 
--- a routine's byte j, of n, is POPPC just where it is the last
+-- byte j of n is POPPC just where it is the last
 abbrev poppcLast : ℕ → ℕ → ℕ → Bool
 poppcLast n j b = cond (eqb (suc j) n) (eqb b 4) (not (eqb b 4))
 
-abbrev ownVector : Short → Bool
-ownVector o = leb (length (code o)) 32 && everyFrom (poppcLast (length (code o))) 0 (bytesInPage o)
+abbrev ownVector : Part → Bool
+ownVector o = leb (o .0 % 32 + length (code (o .1))) 32 && everyFrom (poppcLast (length (code (o .1)))) 0 (bytesAt o)
 
-own-vector-test : every ownVector shorts ≡ true
+own-vector-test : every ownVector parts ≡ true
 unfolding page
 own-vector-test = refl
 
--- a routine lies whole within the 32 bytes of its vector, and leaves them only by its last instruction, its one POPPC
-pub record OwnVector (o : Short) : Type 0 where
-  pub whole : length (code o) ≤ 32
-  pub last : (j : ℕ) → suc j ≡ length (code o) → getD page (vector (o .byte) + j) 0 ≡ 4
-  pub no-other : (j : ℕ) → suc j < length (code o) → getD page (vector (o .byte) + j) 0 ≢ 4
+-- a part lies whole within the 32 bytes of a vector, and leaves them only by its last instruction, its one POPPC
+pub record OwnVector (o : Part) : Type 0 where
+  pub whole : o .0 % 32 + length (code (o .1)) ≤ 32
+  pub last : (j : ℕ) → suc j ≡ length (code (o .1)) → getD page (o .0 + j) 0 ≡ 4
+  pub no-other : (j : ℕ) → suc j < length (code (o .1)) → getD page (o .0 + j) 0 ≢ 4
 
-pub own-vector : {o : Short} → In o shorts → OwnVector o
+pub own-vector : {o : Part} → In o parts → OwnVector o
 own-vector {o} i = record {
   whole = leb-true _ _ (tests .0);
   last = λ j h. eqb-true _ _ (rw (eq-eqb (suc j) n h) at (at j (omega arith)));
@@ -88,13 +87,13 @@ own-vector {o} i = record {
 }
   where
     n : ℕ
-    n = length (code o)
+    n = length (code (o .1))
 
-    tests : (leb n 32 ≡ true) × (everyFrom (poppcLast n) 0 (bytesInPage o) ≡ true)
-    tests = both (leb n 32) (everyFrom (poppcLast n) 0 (bytesInPage o)) (at-entry ownVector shorts own-vector-test i)
+    tests : (leb (o .0 % 32 + n) 32 ≡ true) × (everyFrom (poppcLast n) 0 (bytesAt o) ≡ true)
+    tests = both (leb (o .0 % 32 + n) 32) (everyFrom (poppcLast n) 0 (bytesAt o)) (at-entry ownVector parts own-vector-test i)
 
-    same-length : length (bytesInPage o) ≡ n
-    same-length = sym (length-map (bytesInPage o) (decode Narrow)) ∙ ap length (same-at codeInPage code shorts in-page i)
+    same-length : length (bytesAt o) ≡ n
+    same-length = sym (length-map (bytesAt o) (decode Narrow)) ∙ ap length (same-code i)
 
-    at : (j : ℕ) → j < n → poppcLast n j (getD page (vector (o .byte) + j) 0) ≡ true
-    at j h = rw (zero-add j, byte-in-page o j h) at (at-address (poppcLast n) 0 (bytesInPage o) (tests .1) j (rw same-length h))
+    at : (j : ℕ) → j < n → poppcLast n j (getD page (o .0 + j) 0) ≡ true
+    at j h = rw (zero-add j, byte-at o j h) at (at-address (poppcLast n) 0 (bytesAt o) (tests .1) j (rw same-length h))

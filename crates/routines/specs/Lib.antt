@@ -1,3 +1,4 @@
 pub mod Constants
 pub mod Routines
 pub mod Page
+pub mod Shorts

@@ -1,0 +1,72 @@
+-- How a short instruction ends: where its path has arrived as the wide step says, the step is matched.
+use Prim.Native.Nat.{ℕ, suc, _+_, _-_, _*_, _/_, _%_, _<_}
+use mathlib.Core.Path.{_≡_, refl, sym, _∙_}
+use mathlib.Core.Logic.{inl, inr}
+use mathlib.Core.Bool.{Bool, true, false, not, _&&_}
+use mathlib.Core.Option.{some}
+use native.Mathlib.Omega.{arith}
+use native.Mathlib.Decide.{decLt}
+use lib.ListN.{length, getD}
+use lib.Dec.{T}
+use Rattle.memory.specs.Memory.{word}
+use Rattle.memory.proofs.Tests.{holds, neither}
+use Rattle.memory.proofs.Memory.{Outside, Bytes, alike-read, written-bytes}
+use Rattle.machine.specs.declared.Core.the-variants.{Narrow, Wide}
+use Rattle.machine.specs.State.{state, Place}
+use Rattle.machine.specs.Table.{stepOf}
+use Rattle.machine.specs.Run.{steps}
+use Rattle.laws.proofs.Steps.{steps-keep, steps-length}
+use Rattle.frame.proofs.Window.{Window}
+use Rattle.paths.proofs.Paths.{Stand, placed, Arrives}
+use Rattle.emulation.specs.Left.{writes, leaves}
+use Rattle.emulation.specs.Emulation.{Reached, dirt}
+use Rattle.emulation.proofs.Between.{not-between, past}
+use Rattle.emulation.proofs.Entry.{Ready, base, end, space}
+
+module _ {b n k : ℕ} {p : Place} (R : Ready b n k p) where
+  -- y is as the wide core's q: its state, its words on the stack, its memory around the window; and what the wide step has
+  -- written is not left behind
+  pub record Settled (q : Place) (y : Stand) : Type 0 where
+    pub lands : q .state ≡ state (y .counter) (base R + y .free) (y .flag)
+    pub words : (j : ℕ) → j < length (y .words) → word (q .memory) (base R + y .free + j) ≡ getD (y .words) j 0
+    pub around : (x : ℕ) → Outside (4 * base R) (4 * end R) x → getD (y .around) x 0 ≡ getD (q .memory) x 0
+    pub kept : (x : ℕ) → T (writes (stepOf Wide p) x) → Outside (4 * base R) (4 * (base R + y .free)) x
+
+  module _ {N : ℕ} {q : Place} {y : Stand} (a : Arrives (space R) N p y) (S : Settled q y) (one : steps Wide 1 p ≡ some q) where
+    W : Window (base R) (end R) (y .free) (y .around) (a .memory) (y .words)
+    W = a .holds .window
+
+    -- what is not left behind
+    aside : (x : ℕ) → dirt (suc k) p q x ≡ false → Outside (4 * base R) (4 * (base R + y .free)) x
+    aside x h = by (writes (stepOf Wide p) x) refl (rw (S .lands) at h)
+      where
+        by : (t : Bool) → writes (stepOf Wide p) x ≡ t → not t && leaves (suc k) (p .state .sp .0) (base R + y .free) x ≡ false
+            → Outside (4 * base R) (4 * (base R + y .free)) x
+        by true e h = S .kept x (holds e)
+        by false e h = unfold leaves in (
+            let (under, off) = neither _ _ h in
+            past (not-between _ _ x under) (not-between _ _ x off) (omega arith) (omega arith) (omega arith))
+
+    same : (x : ℕ) → Outside (4 * base R) (4 * (base R + y .free)) x → Dec (x < 4 * end R) → getD (a .memory) x 0 ≡ getD (q .memory) x 0
+    same x (inl l) d = W .outside x (inl l) ∙ S .around x (inl l)
+    same x (inr l) (no h) = W .outside x (inr (omega arith)) ∙ S .around x (inr (omega arith))
+    same x (inr l) (yes h) =
+        let j : ℕ = x / 4 - (base R + y .free) in
+        let spot : 4 * (base R + y .free + j) + x % 4 ≡ x = omega arith in
+        let i : j < length (y .words) = omega (arith, W .fits) in
+        let bytes : Bytes (q .memory) = steps-keep Wide Bytes written-bytes 1 p q one (R .start .bytes) in
+        rw spot at (alike-read (q .memory) (a .memory) (4 * (base R + y .free + j)) 4 bytes (W .bytes)
+        (W .holds j i ∙ sym (S .words j i)) (x % 4) (omega arith))
+
+    pub matched : Reached N p q (dirt (suc k) p q)
+    matched = record {
+      count = a .count;
+      within-bound = a .within;
+      end = placed (space R) y (a .memory);
+      reached = a .reached;
+      alike = record {
+        same-state = sym (S .lands);
+        same-length = steps-length Narrow (a .count) p (placed (space R) y (a .memory)) (a .reached) ∙ sym (steps-length Wide 1 p q one);
+        same-bytes = λ x h. same x (aside x h) (decLt x (4 * end R));
+      };
+    }

@@ -1,0 +1,1 @@
+// Paths of the narrow core through the page: in proofs/.

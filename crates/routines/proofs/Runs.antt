@@ -1,0 +1,75 @@
+-- The routines of straight code: the run of each in the frame machine, and its law, by which it ends as its row says.
+use Prim.Native.Nat.{ℕ, suc, _+_, _-_, _^_, _<_}
+use mathlib.Core.Path.{_≡_, refl, ap, _∙_}
+use mathlib.Core.Bool.{false, cond}
+use mathlib.Core.List.{List, [], _∷_, map}
+use lib.ListN.{take}
+use Rattle.memory.proofs.Tests.{In}
+use Rattle.arithmetic.specs.Words.{wrap}
+use Rattle.frame.proofs.Frame.{Frame, Frame.running, Frame.left, Frame.stuck, through}
+use Rattle.routines.proofs.Entries.{Each, Each.end, Each._&_, law-at, same-at}
+use Rattle.routines.proofs.Parts.{code}
+use Rattle.routines.proofs.Comparisons.{less-than, less-than-or-equal, u-less-than, u-less-than-or-equal}
+use Rattle.routines.proofs.Laws.{equal, not-equal, negation, subtraction, exclusive-or, branch, stack-address}
+use Rattle.routines.proofs.Straight.{Straight, rows, operands}
+
+abbrev goal : Frame → ℕ
+goal (running p f ws) = 0
+goal (left w p ws) = w
+goal stuck = 0
+
+abbrev words : Frame → List ℕ
+words (running p f ws) = ws
+words (left w p ws) = ws
+words stuck = []
+
+-- EMULATE at counter c has pushed the return address r; a and b are the operands, and word base is the lowest that the routine uses
+module _ (base c : ℕ) {r a b : ℕ} (return : r ≡ wrap (c + 1)) (hA : a < 2 ^ 32) (hB : b < 2 ^ 32) where
+  abbrev entered : Straight → ℕ → Frame
+  entered o free = through base (code (o .lines)) free false (r ∷ take (operands o) (a ∷ b ∷ []))
+
+  abbrev run : Straight → Frame
+  run o = entered o (o .depth)
+
+  -- it comes to its POPPC, with sp where the short one leaves it
+  runs : map run rows ≡ map (λ o. left (goal (run o)) (suc (o .depth) + o .popped) (words (run o))) rows
+  unfolding through
+  runs = refl
+
+  -- and does not with fewer words
+  pub no-fewer : map (λ o. entered o (o .depth - 1)) rows ≡ map (λ o. stuck) rows
+  unfolding through
+  no-fewer = refl
+
+  -- what is left of the words that it reads
+  abbrev pub remaining : Straight → List ℕ
+  remaining o = cond (o .leaves) (o .value c (base + suc (o .depth)) a b ∷ []) []
+
+  abbrev Law : Straight → Type 0
+  Law o = (goal (run o) ≡ o .target c a b) × (words (run o) ≡ remaining o)
+
+  -- to the return address, with a result
+  returns : {x y : ℕ} → x ≡ y → (r ≡ wrap (c + 1)) × ((x ∷ []) ≡ (y ∷ []))
+  returns e = (return, ap (λ (z : ℕ). z ∷ []) e)
+
+  laws : Each Law rows
+  unfolding through
+  laws =
+      returns (less-than hA hB)
+      & returns (less-than-or-equal hA hB)
+      & returns (u-less-than hA hB)
+      & returns (u-less-than-or-equal hA hB)
+      & (refl, ap (λ (z : ℕ). z ∷ []) return)  -- 45 CALL
+      & returns (equal hA hB)
+      & returns (not-equal hA hB)
+      & returns (negation hA)
+      & returns (subtraction hA hB)
+      & returns (exclusive-or hA hB)
+      & (branch c return hA hB, refl)
+      & returns (stack-address base 1 hA)
+      & end
+
+  pub runs-to-end : {o : Straight} → In o rows → run o ≡ left (o .target c a b) (suc (o .depth) + o .popped) (remaining o)
+  runs-to-end {o} i =
+      let (target, rest) = law-at laws i in
+      same-at run (λ o. left (goal (run o)) (suc (o .depth) + o .popped) (words (run o))) rows runs i ∙ rw (target, rest)
