@@ -20,7 +20,7 @@ use Rattle.routines.specs.Constants.{pageLength, firstStackWord, freeWords}
 use Rattle.routines.specs.Shorts.{Short, shorts}
 use Rattle.routines.proofs.Numbers.{within-both}
 use Rattle.emulation.specs.Left.{writes, leaves}
-use Rattle.emulation.specs.Emulation.{WithPage, Alike, dirt}
+use Rattle.emulation.specs.Emulation.{WithPage, Alike, dirtOf}
 use Rattle.emulation.proofs.Between.{not-between, outside, narrower}
 use Rattle.emulation.proofs.Theorem.{emulates}
 use Rattle.demand3.specs.Dirt.{Dirt, isShort, dirtied}
@@ -88,7 +88,7 @@ module _ {d : Dirt} {p x : Place} (E : Alike d p x) (F : Allowed p d) (going : G
       record {
         bound = o .steps;
         few = steps;
-        left = dirt (o .words) x (landed e x);
+        left = dirtOf (o .words) x (landed e x);
         reaches = emulates member x (landed e x) start byte (rw (E .same-state) room)
             (one-step Wide x _ (rw same (goes-on e x some going)));
         dirty = λ a h. rw (same, E .same-state) (dirty (o .words) a words h);

@@ -27,7 +27,7 @@ use Rattle.routines.specs.Constants.{pageLength, firstStackWord, freeWords, ste
 use Rattle.routines.specs.Page.{page}
 use Rattle.routines.proofs.Rule.{page-length}
 use Rattle.emulation.specs.Left.{writes, leaves}
-use Rattle.emulation.specs.Emulation.{WithPage, Reached, dirt}
+use Rattle.emulation.specs.Emulation.{WithPage, Reached, dirtOf}
 use Rattle.emulation.proofs.Between.{is-between}
 use Rattle.emulation.proofs.Theorem.{emulates}
 use Rattle.demand3.specs.Dirt.{Dirt, clean, isShort, dirtied}
@@ -199,7 +199,7 @@ unfolding cases
 lone = instances (inr (inl refl))
 
 -- the hypotheses of what it owes hold, too
-pub less-than-owes : Reached 23 (start noWordToSpare) (lone .end) (dirt 5 (start noWordToSpare) (lone .end))
+pub less-than-owes : Reached 23 (start noWordToSpare) (lone .end) (dirtOf 5 (start noWordToSpare) (lone .end))
 unfolding page
 less-than-owes =
     emulates {o = record { byte = 36; steps = 23; words = 5 }} (inl refl) (start noWordToSpare) (lone .end) (lone .start-paged)

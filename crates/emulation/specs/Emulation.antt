@@ -36,11 +36,11 @@ pub record Reached (n : ℕ) (p q : Place) (dirty : ℕ → Bool) : Type 0 where
   pub alike : Alike dirty q end
 
 -- what a step from p to q leaves dirty that uses w words below sp: what it writes is clean
-abbrev pub dirt : ℕ → Place → Place → ℕ → Bool
-dirt w p q x = not (writes (stepOf Wide p) x) && leaves w (p .state .sp .0) (q .state .sp .0) x
+abbrev pub dirtOf : ℕ → Place → Place → ℕ → Bool
+dirtOf w p q x = not (writes (stepOf Wide p) x) && leaves w (p .state .sp .0) (q .state .sp .0) x
 
 -- any wide step of o, from p with the page in place and o's words free above it to q, is matched
 abbrev pub Emulated : Short → Type 0
 Emulated o =
     (p q : Place) → WithPage p → fetched p ≡ o .byte → firstStackWord + o .words ≤ p .state .sp .0 → steps Wide 1 p ≡ some q
-    → Reached (o .steps) p q (dirt (o .words) p q)
+    → Reached (o .steps) p q (dirtOf (o .words) p q)

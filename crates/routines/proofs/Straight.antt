@@ -23,8 +23,8 @@ use Rattle.routines.specs.Shorts.{Short, shorts}
 use Rattle.routines.proofs.Entries.{Each, Each.end, Each._&_}
 use Rattle.routines.proofs.Parts.{code}
 
--- how many words it pops off, whether it leaves one on top of what is left, where it goes from the counter, A and B, what it leaves
--- from the counter, sp, A and B, its routine, and the words below the return address that this uses
+-- how many words it pops off; whether it leaves a word on top; where it goes, from the counter, A and B; which word it leaves, from
+-- the counter, sp, A and B; its routine; and the words below the return address that the routine uses
 pub record Straight : Type 0 where
   pub byte : ℕ
   pub popped : ℕ
