@@ -1,6 +1,6 @@
 -- The short instructions whose routine is straight code: where listing, run and law meet the wide core.
-use Prim.Native.Nat.{ℕ, suc, _+_, _-_, _*_, _/_, _≤_, _<_}
-use mathlib.Core.Path.{_≡_, refl, ap, subst}
+use Prim.Native.Nat.{ℕ, suc, _+_, _-_, _*_, _/_, _^_, _≤_, _<_}
+use mathlib.Core.Path.{_≡_, refl, ap}
 use mathlib.Core.Bool.{Bool, true, false, cond}
 use mathlib.Core.List.{List, [], _∷_}
 use mathlib.Core.Option.{some}
@@ -12,6 +12,7 @@ use Rattle.memory.proofs.Tests.{In, both, at-entry}
 use Rattle.memory.proofs.Memory.{read-lt}
 use Rattle.arithmetic.specs.Words.{oneIf}
 use Rattle.machine.specs.declared.Core.the-variants.{Narrow, Wide}
+use Rattle.machine.specs.declared.State.{State}
 use Rattle.machine.specs.State.{jump, Place, fetched}
 use Rattle.machine.specs.Effects.{Effect}
 use Rattle.machine.specs.Instructions.{Instr.EMULATE, decode}
@@ -19,10 +20,9 @@ use Rattle.machine.specs.Table.{Act.goes, Act.puts, A, B, doing, stepOf}
 use Rattle.machine.specs.Run.{steps}
 use Rattle.frame.proofs.Window.{small}
 use Rattle.routines.specs.Constants.{firstStackWord}
-use Rattle.routines.specs.Page.{Part, parts}
-use Rattle.routines.proofs.Entries.{law-at, same-at, in-map}
-use Rattle.routines.proofs.Parts.{code, stands}
-use Rattle.routines.proofs.Straight.{Straight, rows, part, row-parts, emulated, operands, oneOrTwo, one-or-two, rowOf, meanings}
+use Rattle.routines.proofs.Entries.{law-at, same-at}
+use Rattle.routines.proofs.Parts.{code}
+use Rattle.routines.proofs.Straight.{Straight, rows, at-vector, emulated, operands, oneOrTwo, one-or-two, rowOf, meanings}
 use Rattle.routines.proofs.Runs.{runs-to-end}
 use Rattle.paths.proofs.Paths.{Stand, stand, Arrives, _then_}
 use Rattle.paths.proofs.Joints.{jumps}
@@ -42,17 +42,23 @@ module _ {o : Straight} (member : In o rows) where
     abbrev m : List ℕ
     m = p .memory
 
+    abbrev s : State
+    s = p .state
+
     abbrev c : ℕ
-    c = p .state .pc .0
+    c = s .pc .0
+
+    abbrev sp : ℕ
+    sp = s .sp .0
 
     abbrev target : ℕ
-    target = o .target c (A m (p .state)) (B m (p .state))
+    target = o .target c (A m s) (B m s)
 
     abbrev value : ℕ
-    value = o .value c (p .state .sp .0) (A m (p .state)) (B m (p .state))
+    value = o .value c sp (A m s) (B m s)
 
-    wide : WideStep (operands o) (rowOf m (p .state) o .act) p q
-    wide = wide-step here (law-at (meanings m (p .state)) member) one
+    wide : WideStep (operands o) (rowOf m s o .act) p q
+    wide = wide-step here (law-at (meanings m s) member) one
 
     ready : Ready (o .byte) (operands o) (o .depth) p
     ready = record {
@@ -65,28 +71,29 @@ module _ {o : Straight} (member : In o rows) where
       there = wide .there (some-operand .0);
     }
 
-    in-page : In (part o) parts
-    in-page = subst (λ (ps : List Part). In (part o) ps) row-parts (in-map part o rows member)
+    -- what the wide core does and where the narrow core arrives, where t says whether a word is left
+    abbrev effect : Bool → Effect
+    effect t =
+        let new : State = jump s target (sp + o .popped) in
+        doing m s (cond t (puts new (sp + o .popped) value) (goes new))
 
     abbrev after : Bool → Stand
     after t = stand target (suc (o .depth) + o .popped) false (cond t (value ∷ []) []) m
 
-    abbrev effect : Bool → Effect
-    effect t = doing m (p .state) (cond t (puts (jump (p .state) target (p .state .sp .0 + o .popped)) (p .state .sp .0 + o .popped) value)
-        (goes (jump (p .state) target (p .state .sp .0 + o .popped))))
+    abbrev Arrived : Bool → Type 0
+    Arrived t = Arrives (space ready) (1 + length (code (o .lines))) p (after t)
 
-    arrived : Arrives (space ready) (1 + length (code (o .lines))) p (after (o .leaves))
+    arrived : Arrived (o .leaves)
     arrived =
-        let at-sp : base ready + suc (o .depth) ≡ p .state .sp .0 = omega arith in
-        let ran = runs-to-end (base ready) c refl (read-lt m (4 * p .state .sp .0) 4 (start .bytes))
-        (read-lt m (4 * (p .state .sp .0 + 1)) 4 (start .bytes)) member in
-        enters ready then jumps (code (o .lines)) (stands in-page) (rw at-sp at ran)
+        let at-sp : base ready + suc (o .depth) ≡ sp = omega arith in
+        let hA : A m s < 2 ^ 32 = read-lt m (4 * sp) 4 (start .bytes) in
+        let hB : B m s < 2 ^ 32 = read-lt m (4 * (sp + 1)) 4 (start .bytes) in
+        enters ready then jumps (code (o .lines)) (at-vector member) (rw at-sp at (runs-to-end (base ready) c refl hA hB member))
 
-    settled : (t : Bool) → o .leaves ≡ t → stepOf Wide p ≡ effect t
-        → Arrives (space ready) (1 + length (code (o .lines))) p (after t) → Settled ready q (after t)
+    settled : (t : Bool) → o .leaves ≡ t → stepOf Wide p ≡ effect t → Arrived t → Settled ready q (after t)
     settled true e is a =
         let n : operands o ≡ o .popped + 1 = ap (λ (t : Bool). o .popped + oneIf t) e in
-        let inside = lt-ltb (p .state .sp .0 + o .popped) (length m / 4) (omega (arith, wide .there (some-operand .0))) in
+        let inside = lt-ltb (sp + o .popped) (length m / 4) (omega (arith, ready .there)) in
         word-left ready (o .popped) n (small (a .holds .window) 0 (omega arith)) (wide .lands) (rw inside at is)
     settled false e is a = nothing-left ready (o .popped) (wide .lands) is
 

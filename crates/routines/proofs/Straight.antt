@@ -1,12 +1,12 @@
 -- The short instructions whose routine is straight code: what each is, and that the wide core makes the same of it.
 use Prim.Native.Nat.{ℕ, zero, suc, _+_, _-_, _*_}
-use mathlib.Core.Path.{_≡_, refl}
+use mathlib.Core.Path.{_≡_, refl, subst}
 use mathlib.Core.Bool.{Bool, true, false, cond, _&&_}
 use mathlib.Core.List.{List, [], _∷_, map}
 use native.Mathlib.Nat.{add-zero}
 use lib.ListN.{length}
 use lib.Dec.{ltb, leb, eqb}
-use Rattle.memory.proofs.Tests.{every}
+use Rattle.memory.proofs.Tests.{In, every}
 use Rattle.arithmetic.specs.Words.{wrap, oneIf}
 use Rattle.arithmetic.specs.Operations.{unaryOf, binaryOf}
 use Rattle.arithmetic.specs.declared.UnOp.the-variants.{Neg}
@@ -20,8 +20,8 @@ use Rattle.machine.specs.Table.{Act.goes, Act.puts, Row, _⇒_, row, counter, s
 use Rattle.routines.specs.Routines.{Line, lessThan, lessThanOrEqual, uLessThan, uLessThanOrEqual, call, eq, neq, neg, sub, xor, neqBranch, pushSpAdd}
 use Rattle.routines.specs.Page.{Part, parts, vector}
 use Rattle.routines.specs.Shorts.{Short, shorts}
-use Rattle.routines.proofs.Entries.{Each, Each.end, Each._&_}
-use Rattle.routines.proofs.Parts.{code}
+use Rattle.routines.proofs.Entries.{Each, Each.end, Each._&_, in-map}
+use Rattle.routines.proofs.Parts.{Code, code, stands}
 
 -- how many words it pops off; whether it leaves a word on top; where it goes, from the counter, A and B; which word it leaves, from
 -- the counter, sp, A and B; its routine; and the words below the return address that the routine uses
@@ -67,11 +67,14 @@ rows =
     ∷ []
 
 -- its part of the page
-abbrev pub part : Straight → Part
+abbrev part : Straight → Part
 part o = (vector (o .byte), o .lines)
 
-pub row-parts : map part rows ≡ parts
+row-parts : map part rows ≡ parts
 row-parts = refl
+
+pub at-vector : {o : Straight} → In o rows → Code (vector (o .byte)) (code (o .lines))
+at-vector {o} i = stands (subst (λ (ps : List Part). In (part o) ps) row-parts (in-map part o rows i))
 
 -- its cost: a step and a word for EMULATE, and its routine's
 abbrev pub cost : Straight → Short
