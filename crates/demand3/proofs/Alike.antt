@@ -7,9 +7,10 @@ use Rattle.memory.proofs.Memory.{length-setBytes, written-alike}
 use Rattle.machine.specs.State.{Place}
 use Rattle.machine.specs.Effects.{Effect, Effect.refuse, Effect.stop, Effect.go, landed}
 use Rattle.laws.proofs.Steps.{Goes}
+use Rattle.emulation.specs.LeftBehind.{Dirt}
 use Rattle.emulation.specs.Emulation.{Alike}
 use Rattle.emulation.proofs.Between.{outside}
-use Rattle.demand3.specs.Dirt.{Dirt, dirtied}
+use Rattle.demand3.specs.Dirt.{dirtied}
 
 pub after : {d : Dirt} {p x : Place} → Alike d p x → (e : Effect) → Goes e → Alike (dirtied e p d) (landed e p) (landed e x)
 unfolding dirtied

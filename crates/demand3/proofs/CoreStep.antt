@@ -13,8 +13,9 @@ use Rattle.machine.specs.Effects.{Effect, landed}
 use Rattle.machine.specs.Instructions.{decode}
 use Rattle.machine.specs.Table.{stepOf}
 use Rattle.laws.proofs.Steps.{Goes, goes-on, one-step}
+use Rattle.emulation.specs.LeftBehind.{Dirt}
 use Rattle.emulation.specs.Emulation.{Alike}
-use Rattle.demand3.specs.Dirt.{Dirt, clean}
+use Rattle.demand3.specs.Dirt.{clean}
 use Rattle.demand3.specs.Demand3.{Allowed, isCore}
 use Rattle.demand3.proofs.Dependence.{same-step}
 use Rattle.demand3.proofs.Matched.{Matched}
@@ -43,7 +44,7 @@ core-step {p} {x} {d} E F g c =
     record {
       bound = 1;
       few = omega arith;
-      left = clean;
+      dirt = clean;
       reaches = record {
         count = 1;
         within-bound = omega arith;
@@ -51,6 +52,6 @@ core-step {p} {x} {d} E F g c =
         reached = one-step Narrow x _ (rw same (goes-on e x some g));
         alike = record { same-state = refl; same-length = refl; same-bytes = λ a h. refl };
       };
-      dirty = λ a h. refl;
+      no-more = λ a h. refl;
       off-page = λ a h. refl;
     }

@@ -12,8 +12,8 @@ use Rattle.machine.specs.State.{Place}
 use Rattle.machine.specs.Effects.{Effect}
 use Rattle.machine.specs.Instructions.{Instr, Instr.IM, Instr.STORESP, Instr.LOADSP, Instr.EMULATE, Instr.ADDSP, Instr.PUSHSP, Instr.POPSP, Instr.POPPC, Instr.NOP, Instr.BREAK, Instr.ILLEGAL, Instr.PUSHSPADD, Instr.CALL, Instr.CALLPCREL, Instr.POPPCREL, Instr.PUSHPC, Instr.NEQBRANCH, Instr.EQBRANCH, Instr.unary, Instr.binary, Instr.division, Instr.load, Instr.store}
 use Rattle.machine.specs.Table.{Act.goes, Row, B, row, reading, doing, effectOf, stepOf}
+use Rattle.emulation.specs.LeftBehind.{Dirt}
 use Rattle.emulation.specs.Emulation.{Alike}
-use Rattle.demand3.specs.Dirt.{Dirt}
 use Rattle.demand3.specs.Demand3.{spans, Clean, AllClean, Allowed}
 
 module _ {d : Dirt} {p x : Place} (E : Alike d p x) where

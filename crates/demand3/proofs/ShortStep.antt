@@ -19,11 +19,11 @@ use Rattle.laws.proofs.Steps.{Goes, goes-on, one-step}
 use Rattle.routines.specs.Constants.{pageLength, firstStackWord, freeWords}
 use Rattle.routines.specs.Shorts.{Short, shorts}
 use Rattle.routines.proofs.Numbers.{within-both}
-use Rattle.emulation.specs.Left.{writes, leaves}
+use Rattle.emulation.specs.LeftBehind.{Dirt, writes, leaves}
 use Rattle.emulation.specs.Emulation.{WithPage, Alike, dirtOf}
 use Rattle.emulation.proofs.Between.{not-between, outside, narrower}
 use Rattle.emulation.proofs.Theorem.{emulates}
-use Rattle.demand3.specs.Dirt.{Dirt, isShort, dirtied}
+use Rattle.demand3.specs.Dirt.{isShort, dirtied}
 use Rattle.demand3.specs.Demand3.{Allowed}
 use Rattle.demand3.proofs.Dependence.{same-step}
 use Rattle.demand3.proofs.Matched.{Matched}
@@ -88,9 +88,9 @@ module _ {d : Dirt} {p x : Place} (E : Alike d p x) (F : Allowed p d) (going : G
       record {
         bound = o .steps;
         few = steps;
-        left = dirtOf (o .words) x (landed e x);
+        dirt = dirtOf (o .words) x (landed e x);
         reaches = emulates member x (landed e x) start byte (rw (E .same-state) room)
             (one-step Wide x _ (rw same (goes-on e x some going)));
-        dirty = λ a h. rw (same, E .same-state) (dirty (o .words) a words h);
+        no-more = λ a h. rw (same, E .same-state) (dirty (o .words) a words h);
         off-page = λ a l. rw (same, E .same-state, above-page (o .words) (p .state .sp .0) new a room l) (and-false (not (writes e a)));
       }

@@ -17,10 +17,10 @@ use Rattle.machine.specs.Table.{stepOf}
 use Rattle.machine.specs.Run.{steps}
 use Rattle.laws.proofs.Steps.{Goes, first-step, no-step, steps-add, steps-keep, steps-length}
 use Rattle.routines.specs.Constants.{pageLength, stepBound}
-use Rattle.emulation.specs.Left.{between, writes, leaves}
+use Rattle.emulation.specs.LeftBehind.{Dirt, between, writes, leaves}
 use Rattle.emulation.specs.Emulation.{WithPage, Alike, Reached}
 use Rattle.emulation.proofs.Between.{not-between}
-use Rattle.demand3.specs.Dirt.{Dirt, clean, isShort, dirtied}
+use Rattle.demand3.specs.Dirt.{clean, isShort, dirtied}
 use Rattle.demand3.specs.Demand3.{Allowed, AllAllowed, dirtAfter, Demand3, isCore}
 use Rattle.demand3.proofs.Alike.{after, joined}
 use Rattle.demand3.proofs.Matched.{Matched}
@@ -67,7 +67,7 @@ module _ {d : Dirt} {p x : Place} (E : Alike d p x) (F : Allowed p d) (g : Goes 
   y = one .reaches .end
 
   still-alike : Alike (dirtied e p d) (landed e p) y
-  still-alike = joined (one .reaches .alike) (after E e g) (one .dirty)
+  still-alike = joined (one .reaches .alike) (after E e g) (one .no-more)
 
   same-length : length (y .memory) ≡ length (x .memory)
   same-length = steps-length Narrow (one .reaches .count) x y (one .reaches .reached)

@@ -15,9 +15,9 @@ use Rattle.machine.specs.Instructions.{decode}
 use Rattle.machine.specs.Table.{Row, row, stepOf}
 use Rattle.machine.specs.Run.{steps}
 use Rattle.routines.specs.Constants.{pageLength, firstStackWord, freeWords, stepBound}
-use Rattle.emulation.specs.Left.{writes}
+use Rattle.emulation.specs.LeftBehind.{Dirt, writes}
 use Rattle.emulation.specs.Emulation.{WithPage, Reached}
-use Rattle.demand3.specs.Dirt.{Dirt, clean, isShort, dirtied}
+use Rattle.demand3.specs.Dirt.{clean, isShort, dirtied}
 
 -- a core instruction: none of the bytes 32 to 63
 abbrev pub isCore : ℕ → Bool
@@ -61,5 +61,6 @@ pub record WideRun (n : ℕ) (p q : Place) : Type 0 where
   pub none-stops : steps Wide n p ≡ some q
   pub all-allowed : AllAllowed n p clean
 
+-- and then the narrow core reaches the same state and every byte that is not dirty
 abbrev pub Demand3 : Type 0
 Demand3 = (n : ℕ) (p q : Place) → WithPage p → WideRun n p q → Reached (stepBound * n) p q (dirtAfter n p clean)

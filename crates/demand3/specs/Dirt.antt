@@ -1,16 +1,12 @@
 -- Dirt, by byte, along the wide run.
 use Prim.Native.Nat.{ℕ}
 use mathlib.Core.Bool.{Bool, false, not, _&&_, _||_}
-use mathlib.Core.List.{map}
+use mathlib.Core.List.{[], _∷_}
 use Rattle.machine.specs.State.{Place, fetched}
 use Rattle.machine.specs.Effects.{Effect, stateAfter}
 use Rattle.machine.specs.Instructions.{among}
 use Rattle.routines.specs.Constants.{freeWords}
-use Rattle.routines.specs.Shorts.{shorts}
-use Rattle.emulation.specs.Left.{writes, leaves}
-
-abbrev pub Dirt : Type 0
-Dirt = ℕ → Bool
+use Rattle.emulation.specs.LeftBehind.{Dirt, writes, leaves}
 
 -- at the start no byte is dirty
 abbrev pub clean : Dirt
@@ -18,7 +14,7 @@ clean a = false
 
 -- the twelve short ones
 unfoldable pub isShort : ℕ → Bool
-isShort b = among b (map (λ o. o .byte) shorts)
+isShort b = among b (36 ∷ 37 ∷ 38 ∷ 39 ∷ 45 ∷ 46 ∷ 47 ∷ 48 ∷ 49 ∷ 50 ∷ 56 ∷ 61 ∷ [])
 
 -- the dirt after an effect at p: a short one's is added, and then what the step itself writes is clean
 unfoldable pub dirtied : Effect → Place → Dirt → Dirt

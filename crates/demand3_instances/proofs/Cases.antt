@@ -1,4 +1,5 @@
--- Starts and runs for demand 3: one for each of the twelve, one with no word to spare, and the printed case.
+-- Starts and runs for demand 3: one for each of the twelve, one with no word to spare, one that stores and loads a result, and the
+-- printed case.
 use Prim.Native.Nat.{ℕ, _-_, _/_}
 use mathlib.Core.Bool.{false}
 use mathlib.Core.List.{List, [], _∷_, _++_}

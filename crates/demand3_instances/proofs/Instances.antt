@@ -26,11 +26,11 @@ use Rattle.machine.specs.Run.{steps}
 use Rattle.routines.specs.Constants.{pageLength, firstStackWord, freeWords, stepBound}
 use Rattle.routines.specs.Page.{page}
 use Rattle.routines.proofs.Rule.{page-length}
-use Rattle.emulation.specs.Left.{writes, leaves}
+use Rattle.emulation.specs.LeftBehind.{Dirt, writes, leaves}
 use Rattle.emulation.specs.Emulation.{WithPage, Reached, dirtOf}
 use Rattle.emulation.proofs.Between.{is-between}
 use Rattle.emulation.proofs.Theorem.{emulates}
-use Rattle.demand3.specs.Dirt.{Dirt, clean, isShort, dirtied}
+use Rattle.demand3.specs.Dirt.{clean, isShort, dirtied}
 use Rattle.demand3.specs.Demand3.{isCore, spans, Clean, AllClean, Allowed, AllAllowed, dirtAfter, WideRun}
 use Rattle.demand3.proofs.Theorem.{demand3}
 use Rattle.demand3_instances.proofs.Cases.{Case, start, noWordToSpare, cases}
@@ -193,14 +193,13 @@ instances {c} i =
     (is-clean (dirtAfter (c .count) (start c) clean) (4 * c .sp) 4 (t 4 (lit< tt)))
     (steps Wide (c .count) (start c)) refl (t 3 (lit< tt))
 
--- LESSTHAN by itself
-pub lone : Instance noWordToSpare
+pub no-word-to-spare : Instance noWordToSpare
 unfolding cases
-lone = instances (inr (inl refl))
+no-word-to-spare = instances (inr (inl refl))
 
--- the hypotheses of what it owes hold, too
-pub less-than-owes : Reached 23 (start noWordToSpare) (lone .end) (dirtOf 5 (start noWordToSpare) (lone .end))
+-- `Emulated` is not empty: LESSTHAN from there meets its hypotheses
+pub less-than-owes : Reached 23 (start noWordToSpare) (no-word-to-spare .end) (dirtOf 5 (start noWordToSpare) (no-word-to-spare .end))
 unfolding page
 less-than-owes =
-    emulates {o = record { byte = 36; steps = 23; words = 5 }} (inl refl) (start noWordToSpare) (lone .end) (lone .start-paged)
-    refl (omega arith) (lone .run .none-stops)
+    emulates {o = record { byte = 36; steps = 23; words = 5 }} (inl refl) (start noWordToSpare) (no-word-to-spare .end) (no-word-to-spare .start-paged)
+    refl (omega arith) (no-word-to-spare .run .none-stops)

@@ -8,7 +8,7 @@ use native.Mathlib.Decide.{decLt}
 use borrow.Author.Tests.{le-ltb, lt-leb, le-leb, ltb-false, leb-true, ltb-true}
 use lib.Dec.{ltb, leb}
 use Rattle.memory.proofs.Tests.{both}
-use Rattle.emulation.specs.Left.{between}
+use Rattle.emulation.specs.LeftBehind.{between}
 use Rattle.memory.proofs.Memory.{Outside}
 
 module _ (a e x : ℕ) where

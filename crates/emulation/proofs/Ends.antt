@@ -21,12 +21,12 @@ use Rattle.machine.specs.Run.{steps}
 use Rattle.laws.proofs.Steps.{steps-keep, steps-length}
 use Rattle.frame.proofs.Window.{Window}
 use Rattle.paths.proofs.Paths.{Stand, stand, placed, Arrives}
-use Rattle.emulation.specs.Left.{writes, leaves}
+use Rattle.emulation.specs.LeftBehind.{writes, leaves}
 use Rattle.emulation.specs.Emulation.{Reached, dirtOf}
 use Rattle.emulation.proofs.Between.{not-between, is-between, past}
-use Rattle.emulation.proofs.Entry.{Ready, base, end, space}
+use Rattle.emulation.proofs.Entry.{Begins, base, end, space}
 
-module _ {b n k : ℕ} {p : Place} (R : Ready b n k p) where
+module _ {b n k : ℕ} {p : Place} (R : Begins b n k p) where
   abbrev sp : ℕ
   sp = p .state .sp .0
 

@@ -24,16 +24,16 @@ use Rattle.paths.proofs.Paths.{Paged, Space, Stand, stand, Arrives}
 use Rattle.emulation.specs.Emulation.{WithPage}
 
 -- at p the byte b of a short one is fetched, with n operands there and k words free below the return address
-pub record Ready (b n k : ℕ) (p : Place) : Type 0 where
+pub record Begins (b n k : ℕ) (p : Place) : Type 0 where
   pub start : WithPage p
   pub inside : p .state .pc .0 < length (p .memory)
   pub here : fetched p ≡ b
-  pub emulated : decode Narrow b ≡ EMULATE (b - 32)
+  pub taken-for-emulate : decode Narrow b ≡ EMULATE (b - 32)
   pub room : firstStackWord + suc k ≤ p .state .sp .0
-  pub one-or-two : n ≤ 2
+  pub at-most-two : n ≤ 2
   pub there : p .state .sp .0 + n ≤ length (p .memory) / 4
 
-module _ {b n k : ℕ} {p : Place} (R : Ready b n k p) where
+module _ {b n k : ℕ} {p : Place} (R : Begins b n k p) where
   abbrev m : List ℕ
   m = p .memory
 
@@ -43,8 +43,8 @@ module _ {b n k : ℕ} {p : Place} (R : Ready b n k p) where
   abbrev return : ℕ
   return = wrap (p .state .pc .0 + 1)
 
-  abbrev pub operands : List ℕ
-  operands = take n (A m (p .state) ∷ B m (p .state) ∷ [])
+  abbrev pub operandWords : List ℕ
+  operandWords = take n (A m (p .state) ∷ B m (p .state) ∷ [])
 
   abbrev pub base : ℕ
   base = sp - suc k
@@ -62,17 +62,17 @@ module _ {b n k : ℕ} {p : Place} (R : Ready b n k p) where
   space = record { base = base; end = end; above = above; not-over = in-reach }
 
   abbrev pub entry : Stand
-  entry = stand (vector b) k false (return ∷ operands) m
+  entry = stand (vector b) k false (return ∷ operandWords) m
 
-  length-operands : length operands ≡ n
-  length-operands = length-take-le n (A m (p .state) ∷ B m (p .state) ∷ []) (R .one-or-two)
+  length-operands : length operandWords ≡ n
+  length-operands = length-take-le n (A m (p .state) ∷ B m (p .state) ∷ []) (R .at-most-two)
 
   operand : (j : ℕ) → j < 2 → word m (sp + j) ≡ getD (A m (p .state) ∷ B m (p .state) ∷ []) j 0
   operand zero h = rw (add-zero sp)
   operand (suc zero) h = refl
   operand (suc (suc j)) h = absurd (omega arith)
 
-  before : Window base end (suc k) m m operands
+  before : Window base end (suc k) m m operandWords
   before = record {
     same-length = refl;
     room = omega (arith, R .there);
@@ -81,7 +81,7 @@ module _ {b n k : ℕ} {p : Place} (R : Ready b n k p) where
     holds = λ j h.
         let l : j < n = rw length-operands at h in
         let at-sp : base + suc k ≡ sp = omega (arith, R .room) in
-        rw at-sp (operand j (omega (arith, R .one-or-two)) ∙ sym (getD-take n (A m (p .state) ∷ B m (p .state) ∷ []) j 0 l));
+        rw at-sp (operand j (omega (arith, R .at-most-two)) ∙ sym (getD-take n (A m (p .state) ∷ B m (p .state) ∷ []) j 0 l));
     bytes = R .start .bytes;
   }
 
@@ -99,7 +99,7 @@ module _ {b n k : ℕ} {p : Place} (R : Ready b n k p) where
         reached = one-step Narrow p _ (rw (
           lt-ltb (p .state .pc .0) (length m) (R .inside),
           R .here,
-          R .emulated,
+          R .taken-for-emulate,
           has-room m (p .state) _ return (omega (arith, R .room)) (omega (arith, R .there)),
           under,
         ));

@@ -21,14 +21,14 @@ use Rattle.machine.specs.Run.{steps}
 use Rattle.frame.proofs.Window.{small}
 use Rattle.routines.specs.Constants.{firstStackWord}
 use Rattle.routines.proofs.Entries.{law-at, same-at}
-use Rattle.routines.proofs.Parts.{code}
-use Rattle.routines.proofs.Straight.{Straight, rows, at-vector, emulated, operands, oneOrTwo, one-or-two, rowOf, meanings}
+use Rattle.routines.proofs.InPage.{code}
+use Rattle.routines.proofs.Straight.{Straight, rows, at-vector, taken-for-emulate, operands, oneOrTwo, one-or-two, rowOf, meanings}
 use Rattle.routines.proofs.Runs.{runs-to-end}
 use Rattle.paths.proofs.Paths.{Stand, stand, Arrives, _then_}
 use Rattle.paths.proofs.Joints.{jumps}
 use Rattle.emulation.specs.Emulation.{WithPage, Reached, dirtOf}
 use Rattle.emulation.proofs.WideStep.{WideStep, wide-step}
-use Rattle.emulation.proofs.Entry.{Ready, base, space, enters}
+use Rattle.emulation.proofs.Entry.{Begins, base, space, enters}
 use Rattle.emulation.proofs.Ends.{Settled, matched, word-left, nothing-left}
 
 module _ {o : Straight} (member : In o rows) where
@@ -60,14 +60,14 @@ module _ {o : Straight} (member : In o rows) where
     wide : WideStep (operands o) (rowOf m s o .act) p q
     wide = wide-step here (law-at (meanings m s) member) one
 
-    ready : Ready (o .byte) (operands o) (o .depth) p
-    ready = record {
+    begins : Begins (o .byte) (operands o) (o .depth) p
+    begins = record {
       start = start;
       inside = wide .inside;
       here = here;
-      emulated = same-at (λ o. decode Narrow (o .byte)) (λ o. EMULATE (o .byte - 32)) rows emulated member;
+      taken-for-emulate = same-at (λ o. decode Narrow (o .byte)) (λ o. EMULATE (o .byte - 32)) rows taken-for-emulate member;
       room = room;
-      one-or-two = some-operand .1;
+      at-most-two = some-operand .1;
       there = wide .there (some-operand .0);
     }
 
@@ -81,21 +81,21 @@ module _ {o : Straight} (member : In o rows) where
     after t = stand target (suc (o .depth) + o .popped) false (cond t (value ∷ []) []) m
 
     abbrev Arrived : Bool → Type 0
-    Arrived t = Arrives (space ready) (1 + length (code (o .lines))) p (after t)
+    Arrived t = Arrives (space begins) (1 + length (code (o .lines))) p (after t)
 
-    arrived : Arrived (o .leaves)
+    arrived : Arrived (o .hasValue)
     arrived =
-        let at-sp : base ready + suc (o .depth) ≡ sp = omega arith in
+        let at-sp : base begins + suc (o .depth) ≡ sp = omega arith in
         let hA : A m s < 2 ^ 32 = read-lt m (4 * sp) 4 (start .bytes) in
         let hB : B m s < 2 ^ 32 = read-lt m (4 * (sp + 1)) 4 (start .bytes) in
-        enters ready then jumps (code (o .lines)) (at-vector member) (rw at-sp at (runs-to-end (base ready) c refl hA hB member))
+        enters begins then jumps (code (o .lines)) (at-vector member) (rw at-sp at (runs-to-end (base begins) c refl hA hB member))
 
-    settled : (t : Bool) → o .leaves ≡ t → stepOf Wide p ≡ effect t → Arrived t → Settled ready q (after t)
+    settled : (t : Bool) → o .hasValue ≡ t → stepOf Wide p ≡ effect t → Arrived t → Settled begins q (after t)
     settled true e is a =
         let n : operands o ≡ o .popped + 1 = ap (λ (t : Bool). o .popped + oneIf t) e in
-        let inside = lt-ltb (sp + o .popped) (length m / 4) (omega (arith, ready .there)) in
-        word-left ready (o .popped) n (small (a .holds .window) 0 (omega arith)) (wide .lands) (rw inside at is)
-    settled false e is a = nothing-left ready (o .popped) (wide .lands) is
+        let inside = lt-ltb (sp + o .popped) (length m / 4) (omega (arith, begins .there)) in
+        word-left begins (o .popped) n (small (a .holds .window) 0 (omega arith)) (wide .lands) (rw inside at is)
+    settled false e is a = nothing-left begins (o .popped) (wide .lands) is
 
     pub straight : Reached (1 + length (code (o .lines))) p q (dirtOf (suc (o .depth)) p q)
-    straight = matched ready arrived (settled (o .leaves) refl (wide .is) arrived) one
+    straight = matched begins arrived (settled (o .hasValue) refl (wide .is) arrived) one

@@ -22,7 +22,7 @@ use Rattle.frame.proofs.Window.{Window}
 use Rattle.frame.proofs.Follows.{at, Follows, follows}
 use Rattle.routines.specs.Constants.{pageLength}
 use Rattle.routines.specs.Page.{page}
-use Rattle.routines.proofs.Parts.{Code}
+use Rattle.routines.proofs.InPage.{Code}
 use Rattle.paths.proofs.Paths.{Paged, Space, stand, Arrives, Leads, further}
 
 later : {c : ℕ} {i : Instr} {is : List Instr} → Code c (i ∷ is) → Code (c + 1) is

@@ -1,5 +1,5 @@
 -- What is proved of each entry of a list.
-use mathlib.Core.Path.{_≡_, refl, ap}
+use mathlib.Core.Path.{_≡_, refl}
 use mathlib.Core.Logic.{inl, inr}
 use mathlib.Core.List.{List, [], _∷_, map}
 use Rattle.memory.proofs.Tests.{In}
@@ -20,11 +20,6 @@ pub same-at : {A B : Type 0} (f g : A → B) {x : A} (xs : List A) → map f xs 
 same-at f g [] e i = absurd i
 same-at f g (y ∷ ys) e (inl p) = rw p (cc)
 same-at f g (y ∷ ys) e (inr i) = same-at f g ys (cc) i
-
-pub in-map : {A B : Type 0} (f : A → B) (x : A) (xs : List A) → In x xs → In (f x) (map f xs)
-in-map f x [] i = absurd i
-in-map f x (y ∷ ys) (inl e) = inl (ap f e)
-in-map f x (y ∷ ys) (inr i) = inr (in-map f x ys i)
 
 pub each-of : {A B : Type 0} {P : B → Type 0} (f : A → B) (xs : List A) → ((x : A) → In x xs → P (f x)) → Each P (map f xs)
 each-of f [] h = end

@@ -1,5 +1,5 @@
 pub mod Entries
-pub mod Parts
+pub mod InPage
 pub mod Words
 pub mod Comparisons
 pub mod Laws

@@ -1,5 +1,5 @@
--- The rules of the page: what its bytes are, that the unused ones are 11, and that each part keeps to its own vector.
-use Prim.Native.Nat.{ℕ, zero, suc, _+_, _%_, _≤_, _<_}
+-- The rules of the page: what its bytes are, that the unused ones are 11, and that each straight routine keeps to its own vector.
+use Prim.Native.Nat.{ℕ, zero, suc, _+_, _≤_, _<_}
 use mathlib.Core.Path.{_≡_, refl, sym, ap, _∙_}
 use mathlib.Core.Logic.{_≢_}
 use mathlib.Core.Bool.{Bool, true, cond, not, _&&_, _||_}
@@ -13,8 +13,10 @@ use Rattle.machine.specs.declared.Core.the-variants.{Narrow}
 use Rattle.machine.specs.Instructions.{decode}
 use Rattle.memory.proofs.Tests.{In, both, every, at-entry, at-each}
 use Rattle.routines.specs.Constants.{pageLength}
-use Rattle.routines.specs.Page.{Part, parts, page}
-use Rattle.routines.proofs.Parts.{code, bytesAt, byte-at, same-code}
+use Rattle.routines.specs.Page.{parts, vector, page}
+use Rattle.routines.proofs.Entries.{same-at}
+use Rattle.routines.proofs.InPage.{code, bytesAt, byte-at}
+use Rattle.routines.proofs.Straight.{Straight, rows, inPage, same-code}
 
 pub page-length : length page ≡ pageLength
 page-length = unfold page in refl
@@ -66,20 +68,20 @@ unused x h e = eqb-true _ _ (rw (zero-add x, e) at (at-address elevenIfUnused 0 
 abbrev poppcLast : ℕ → ℕ → ℕ → Bool
 poppcLast n j b = cond (eqb (suc j) n) (eqb b 4) (not (eqb b 4))
 
-abbrev ownVector : Part → Bool
-ownVector o = leb (o .0 % 32 + length (code (o .1))) 32 && everyFrom (poppcLast (length (code (o .1)))) 0 (bytesAt o)
+abbrev ownVector : Straight → Bool
+ownVector o = leb (length (code (o .lines))) 32 && everyFrom (poppcLast (length (code (o .lines)))) 0 (bytesAt (vector (o .byte)) (length (code (o .lines))))
 
-own-vector-test : every ownVector parts ≡ true
+own-vector-test : every ownVector rows ≡ true
 unfolding page
 own-vector-test = refl
 
--- a part lies whole within the 32 bytes of a vector, and leaves them only by its last instruction, its one POPPC
-pub record OwnVector (o : Part) : Type 0 where
-  pub whole : o .0 % 32 + length (code (o .1)) ≤ 32
-  pub last : (j : ℕ) → suc j ≡ length (code (o .1)) → getD page (o .0 + j) 0 ≡ 4
-  pub no-other : (j : ℕ) → suc j < length (code (o .1)) → getD page (o .0 + j) 0 ≢ 4
+-- a straight routine lies whole within the 32 bytes of its vector, and leaves them only by its last instruction, its one POPPC
+pub record OwnVector (o : Straight) : Type 0 where
+  pub whole : length (code (o .lines)) ≤ 32
+  pub last : (j : ℕ) → suc j ≡ length (code (o .lines)) → getD page (vector (o .byte) + j) 0 ≡ 4
+  pub no-other : (j : ℕ) → suc j < length (code (o .lines)) → getD page (vector (o .byte) + j) 0 ≢ 4
 
-pub own-vector : {o : Part} → In o parts → OwnVector o
+pub own-vector : {o : Straight} → In o rows → OwnVector o
 own-vector {o} i = record {
   whole = leb-true _ _ (tests .0);
   last = λ j h. eqb-true _ _ (rw (eq-eqb (suc j) n h) at (at j (omega arith)));
@@ -87,13 +89,16 @@ own-vector {o} i = record {
 }
   where
     n : ℕ
-    n = length (code (o .1))
+    n = length (code (o .lines))
 
-    tests : (leb (o .0 % 32 + n) 32 ≡ true) × (everyFrom (poppcLast n) 0 (bytesAt o) ≡ true)
-    tests = both (leb (o .0 % 32 + n) 32) (everyFrom (poppcLast n) 0 (bytesAt o)) (at-entry ownVector parts own-vector-test i)
+    bytes : List ℕ
+    bytes = bytesAt (vector (o .byte)) n
 
-    same-length : length (bytesAt o) ≡ n
-    same-length = sym (length-map (bytesAt o) (decode Narrow)) ∙ ap length (same-code i)
+    tests : (leb n 32 ≡ true) × (everyFrom (poppcLast n) 0 bytes ≡ true)
+    tests = both (leb n 32) (everyFrom (poppcLast n) 0 bytes) (at-entry ownVector rows own-vector-test i)
 
-    at : (j : ℕ) → j < n → poppcLast n j (getD page (o .0 + j) 0) ≡ true
-    at j h = rw (zero-add j, byte-at o j h) at (at-address (poppcLast n) 0 (bytesAt o) (tests .1) j (rw same-length h))
+    same-length : length bytes ≡ n
+    same-length = sym (length-map bytes (decode Narrow)) ∙ ap length (same-at inPage (λ o. code (o .lines)) rows same-code i)
+
+    at : (j : ℕ) → j < n → poppcLast n j (getD page (vector (o .byte) + j) 0) ≡ true
+    at j h = rw (zero-add j, byte-at (vector (o .byte)) n j h) at (at-address (poppcLast n) 0 bytes (tests .1) j (rw same-length h))

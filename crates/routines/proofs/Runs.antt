@@ -8,7 +8,7 @@ use Rattle.memory.proofs.Tests.{In}
 use Rattle.arithmetic.specs.Words.{wrap}
 use Rattle.frame.proofs.Frame.{Frame, Frame.running, Frame.left, Frame.stuck, through}
 use Rattle.routines.proofs.Entries.{Each, Each.end, Each._&_, law-at, same-at}
-use Rattle.routines.proofs.Parts.{code}
+use Rattle.routines.proofs.InPage.{code}
 use Rattle.routines.proofs.Comparisons.{less-than, less-than-or-equal, u-less-than, u-less-than-or-equal}
 use Rattle.routines.proofs.Laws.{equal, not-equal, negation, subtraction, exclusive-or, branch, stack-address}
 use Rattle.routines.proofs.Straight.{Straight, rows, operands}
@@ -43,7 +43,7 @@ module _ (base c : ℕ) {r a b : ℕ} (return : r ≡ wrap (c + 1)) (hA : a < 2 
 
   -- what is left of the words that it reads
   abbrev pub remaining : Straight → List ℕ
-  remaining o = cond (o .leaves) (o .value c (base + suc (o .depth)) a b ∷ []) []
+  remaining o = cond (o .hasValue) (o .value c (base + suc (o .depth)) a b ∷ []) []
 
   abbrev Law : Straight → Type 0
   Law o = (goal (run o) ≡ o .target c a b) × (words (run o) ≡ remaining o)

@@ -1,12 +1,13 @@
 -- The short instructions whose routine is straight code: what each is, and that the wide core makes the same of it.
 use Prim.Native.Nat.{ℕ, zero, suc, _+_, _-_, _*_}
-use mathlib.Core.Path.{_≡_, refl, subst}
+use mathlib.Core.Path.{_≡_, refl}
 use mathlib.Core.Bool.{Bool, true, false, cond, _&&_}
 use mathlib.Core.List.{List, [], _∷_, map}
 use native.Mathlib.Nat.{add-zero}
+use borrow.Author.Tests.{leb-true}
 use lib.ListN.{length}
 use lib.Dec.{ltb, leb, eqb}
-use Rattle.memory.proofs.Tests.{In, every}
+use Rattle.memory.proofs.Tests.{In, every, at-entry}
 use Rattle.arithmetic.specs.Words.{wrap, oneIf}
 use Rattle.arithmetic.specs.Operations.{unaryOf, binaryOf}
 use Rattle.arithmetic.specs.declared.UnOp.the-variants.{Neg}
@@ -15,20 +16,21 @@ use Rattle.arithmetic.specs.declared.BinOp.the-variants.{LessThan, LessThanOrEq
 use Rattle.machine.specs.declared.Core.the-variants.{Narrow, Wide}
 use Rattle.machine.specs.declared.State.{State}
 use Rattle.machine.specs.State.{jump}
-use Rattle.machine.specs.Instructions.{Instr.EMULATE, decode, below64}
+use Rattle.machine.specs.Instructions.{Instr, Instr.EMULATE, decode, below32, below64}
 use Rattle.machine.specs.Table.{Act.goes, Act.puts, Row, _⇒_, row, counter, sp, A, B}
+use Rattle.routines.specs.Constants.{pageLength}
 use Rattle.routines.specs.Routines.{Line, lessThan, lessThanOrEqual, uLessThan, uLessThanOrEqual, call, eq, neq, neg, sub, xor, neqBranch, pushSpAdd}
-use Rattle.routines.specs.Page.{Part, parts, vector}
+use Rattle.routines.specs.Page.{vector, page}
 use Rattle.routines.specs.Shorts.{Short, shorts}
-use Rattle.routines.proofs.Entries.{Each, Each.end, Each._&_, in-map}
-use Rattle.routines.proofs.Parts.{Code, code, stands}
+use Rattle.routines.proofs.Entries.{Each, Each.end, Each._&_, same-at}
+use Rattle.routines.proofs.InPage.{Code, code, codeAt, stands}
 
 -- how many words it pops off; whether it leaves a word on top; where it goes, from the counter, A and B; which word it leaves, from
 -- the counter, sp, A and B; its routine; and the words below the return address that the routine uses
 pub record Straight : Type 0 where
   pub byte : ℕ
   pub popped : ℕ
-  pub leaves : Bool
+  pub hasValue : Bool
   pub target : ℕ → ℕ → ℕ → ℕ
   pub value : ℕ → ℕ → ℕ → ℕ → ℕ
   pub lines : List Line
@@ -40,15 +42,15 @@ following c a b = wrap (c + 1)
 -- the result of an operation is in the place of B
 abbrev twoToOne : ℕ → BinOp → List Line → ℕ → Straight
 twoToOne b op l n =
-    record { byte = b; popped = 1; leaves = true; target = following; value = λ c s x y. binaryOf op x y; lines = l; depth = n }
+    record { byte = b; popped = 1; hasValue = true; target = following; value = λ c s x y. binaryOf op x y; lines = l; depth = n }
 
 -- A and B are popped off
 abbrev twoToNone : ℕ → (ℕ → ℕ → ℕ → ℕ) → List Line → ℕ → Straight
-twoToNone b t l n = record { byte = b; popped = 2; leaves = false; target = t; value = λ c s x y. 0; lines = l; depth = n }
+twoToNone b t l n = record { byte = b; popped = 2; hasValue = false; target = t; value = λ c s x y. 0; lines = l; depth = n }
 
 -- a word is in the place of A
 abbrev oneToOne : ℕ → (ℕ → ℕ → ℕ → ℕ) → (ℕ → ℕ → ℕ → ℕ → ℕ) → List Line → ℕ → Straight
-oneToOne b t v l n = record { byte = b; popped = 0; leaves = true; target = t; value = v; lines = l; depth = n }
+oneToOne b t v l n = record { byte = b; popped = 0; hasValue = true; target = t; value = v; lines = l; depth = n }
 
 abbrev pub rows : List Straight
 rows =
@@ -66,15 +68,24 @@ rows =
     ∷ oneToOne 61 following (λ c s x y. wrap (4 * s + 4 * x)) pushSpAdd 2
     ∷ []
 
--- its part of the page
-abbrev part : Straight → Part
-part o = (vector (o .byte), o .lines)
+-- the page has each routine at its vector
+abbrev pub inPage : Straight → List Instr
+inPage o = codeAt (vector (o .byte)) (length (code (o .lines)))
 
-row-parts : map part rows ≡ parts
-row-parts = refl
+pub same-code : map inPage rows ≡ map (λ o. code (o .lines)) rows
+unfolding page decode below32
+same-code = refl
+
+abbrev endsInPage : Straight → Bool
+endsInPage o = leb (vector (o .byte) + length (code (o .lines))) pageLength
+
+all-end : every endsInPage rows ≡ true
+all-end = refl
 
 pub at-vector : {o : Straight} → In o rows → Code (vector (o .byte)) (code (o .lines))
-at-vector {o} i = stands (subst (λ (ps : List Part). In (part o) ps) row-parts (in-map part o rows i))
+at-vector {o} i =
+    stands (vector (o .byte)) (code (o .lines)) (same-at inPage (λ o. code (o .lines)) rows same-code i)
+    (leb-true _ _ (at-entry endsInPage rows all-end i))
 
 -- its cost: a step and a word for EMULATE, and its routine's
 abbrev pub cost : Straight → Short
@@ -84,13 +95,13 @@ pub costs : map cost rows ≡ shorts
 costs = refl
 
 -- the narrow core takes each for EMULATE
-pub emulated : map (λ o. decode Narrow (o .byte)) rows ≡ map (λ o. EMULATE (o .byte - 32)) rows
+pub taken-for-emulate : map (λ o. decode Narrow (o .byte)) rows ≡ map (λ o. EMULATE (o .byte - 32)) rows
 unfolding decode below64
-emulated = refl
+taken-for-emulate = refl
 
 -- the words that it reads: those that it pops off, and the one that it changes
 abbrev pub operands : Straight → ℕ
-operands o = o .popped + oneIf (o .leaves)
+operands o = o .popped + oneIf (o .hasValue)
 
 abbrev pub oneOrTwo : Straight → Bool
 oneOrTwo o = ltb 0 (operands o) && leb (operands o) 2
@@ -109,7 +120,7 @@ module _ (m : List ℕ) (s : State) where
   rowOf o =
       let t : State = jump s (o .target (counter m s) (A m s) (B m s)) (sp m s + o .popped) in
       wordsFrom (operands o) (sp m s)
-      ⇒ cond (o .leaves) (puts t (sp m s + o .popped) (o .value (counter m s) (sp m s) (A m s) (B m s))) (goes t)
+      ⇒ cond (o .hasValue) (puts t (sp m s + o .popped) (o .value (counter m s) (sp m s) (A m s) (B m s))) (goes t)
 
   abbrev pub Means : Straight → Type 0
   Means o = row m s (decode Wide (o .byte)) ≡ rowOf o

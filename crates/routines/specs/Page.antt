@@ -12,7 +12,7 @@ Part = ℕ × List Line
 abbrev pub vector : ℕ → ℕ
 vector b = 32 * (b - 32)
 
--- in the order of their addresses
+-- in the order of their addresses, none over another
 abbrev pub parts : List Part
 parts =
     (vector 36, lessThan)
@@ -36,7 +36,7 @@ unused n = replicate n 11
 abbrev bytesOf : List Line → List ℕ
 bytesOf = map (λ l. l .0)
 
--- the parts os, and what is between them, from address c on
+-- from address c to the page's end: the parts os, and unused bytes between and after them
 abbrev laid : ℕ → List Part → List ℕ
 laid c [] = unused (pageLength - c)
 laid c (o ∷ os) = unused (o .0 - c) ++ bytesOf (o .1) ++ laid (o .0 + length (o .1)) os

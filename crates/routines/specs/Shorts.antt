@@ -14,16 +14,16 @@ short b n w = record { byte = b; steps = n; words = w }
 
 abbrev pub shorts : List Short
 shorts =
-    short 36 23 5
-    ∷ short 37 21 5
-    ∷ short 38 22 5
-    ∷ short 39 21 5
-    ∷ short 45 6 3
-    ∷ short 46 18 4
-    ∷ short 47 17 4
-    ∷ short 48 7 3
-    ∷ short 49 9 3
-    ∷ short 50 15 4
-    ∷ short 56 21 4
-    ∷ short 61 10 3
+    short 36 23 5  -- LESSTHAN
+    ∷ short 37 21 5  -- LESSTHANOREQUAL
+    ∷ short 38 22 5  -- ULESSTHAN
+    ∷ short 39 21 5  -- ULESSTHANOREQUAL
+    ∷ short 45 6 3  -- CALL
+    ∷ short 46 18 4  -- EQ
+    ∷ short 47 17 4  -- NEQ
+    ∷ short 48 7 3  -- NEG
+    ∷ short 49 9 3  -- SUB
+    ∷ short 50 15 4  -- XOR
+    ∷ short 56 21 4  -- NEQBRANCH
+    ∷ short 61 10 3  -- PUSHSPADD
     ∷ []

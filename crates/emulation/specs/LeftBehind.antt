@@ -4,6 +4,10 @@ use mathlib.Core.Bool.{Bool, false, _&&_, _||_}
 use lib.Dec.{ltb, leb}
 use Rattle.machine.specs.Effects.{Effect, Effect.refuse, Effect.stop, Effect.go}
 
+-- which bytes are dirty
+abbrev pub Dirt : Type 0
+Dirt = ℕ → Bool
+
 -- byte x is one of those from a up to e
 abbrev pub between : ℕ → ℕ → ℕ → Bool
 between a e x = leb a x && ltb x e
@@ -22,6 +26,6 @@ below w sp x = between (4 * (sp - w)) (4 * sp) x
 abbrev pub popped : ℕ → ℕ → ℕ → Bool
 popped old new x = between (4 * old) (4 * new) x
 
--- what a short one leaves behind
+-- what a short one leaves behind that uses w words below sp
 unfoldable pub leaves : ℕ → ℕ → ℕ → ℕ → Bool
 leaves w old new x = below w old x || popped old new x
