@@ -1,7 +1,7 @@
 -- A core instruction: both cores have the same effect.
 use Prim.Native.Nat.{ℕ, _≤_, _<_}
 use mathlib.Core.Path.{_≡_, refl, _∙_}
-use mathlib.Core.Bool.{_||_}
+use mathlib.Core.Bool.{false, _||_}
 use mathlib.Core.Option.{some}
 use native.Mathlib.Omega.{arith}
 use native.Mathlib.Decide.{decLt}
@@ -15,7 +15,6 @@ use Rattle.machine.specs.Table.{stepOf}
 use Rattle.laws.proofs.Steps.{Goes, goes-on, one-step}
 use Rattle.emulation.specs.LeftBehind.{Dirt}
 use Rattle.emulation.specs.Emulation.{Alike}
-use Rattle.demand3.specs.Dirt.{clean}
 use Rattle.demand3.specs.Demand3.{Allowed, isCore}
 use Rattle.demand3.proofs.Dependence.{same-step}
 use Rattle.demand3.proofs.Matched.{Matched}
@@ -44,7 +43,7 @@ core-step {p} {x} {d} E F g c =
     record {
       bound = 1;
       few = omega arith;
-      dirt = clean;
+      dirt = λ a. false;
       reaches = record {
         count = 1;
         within-bound = omega arith;

@@ -4,3 +4,4 @@ pub mod Matched
 pub mod CoreStep
 pub mod ShortStep
 pub mod Theorem
+pub mod Paper

@@ -68,7 +68,7 @@ module _ {d : Dirt} {p x : Place} (E : Alike d p x) (F : Allowed p d) (going : G
   abbrev new : ℕ
   new = stateAfter (p .state) e .sp .0
 
-  -- what is dirty in the words of demand 3 is dirty in those of the instruction
+  -- what is clean by the words of demand 3 is clean by those of the instruction
   dirty : (w a : ℕ) → w ≤ freeWords → dirtied e p d a ≡ false → not (writes e a) && leaves w (p .state .sp .0) new a ≡ false
   unfolding dirtied
   dirty w a l h = by (writes e a) (omega arith) h

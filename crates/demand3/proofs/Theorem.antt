@@ -1,7 +1,7 @@
 -- Demand 3 holds.
 use Prim.Native.Nat.{ℕ, zero, suc, _+_, _-_, _*_, _≤_, _<_, min}
 use mathlib.Core.Path.{_≡_, refl, sym, ap, _∙_}
-use mathlib.Core.Bool.{Bool, true, false, not, _&&_, _||_}
+use mathlib.Core.Bool.{Bool, true, false}
 use mathlib.Core.List.{List}
 use mathlib.Core.Option.{some}
 use native.Mathlib.Omega.{arith}
@@ -12,15 +12,15 @@ use Rattle.memory.proofs.Tests.{holds}
 use Rattle.memory.proofs.Memory.{Outside, Bytes, outside-same, written-bytes}
 use Rattle.machine.specs.declared.Core.the-variants.{Narrow, Wide}
 use Rattle.machine.specs.State.{Place, fetched}
-use Rattle.machine.specs.Effects.{Effect, Effect.refuse, Effect.stop, Effect.go, memoryAfter, stateAfter, landed}
+use Rattle.machine.specs.Effects.{Effect, Effect.refuse, Effect.stop, Effect.go, memoryAfter, landed}
 use Rattle.machine.specs.Table.{stepOf}
 use Rattle.machine.specs.Run.{steps}
 use Rattle.laws.proofs.Steps.{Goes, first-step, no-step, steps-add, steps-keep, steps-length}
 use Rattle.routines.specs.Constants.{pageLength, stepBound}
-use Rattle.emulation.specs.LeftBehind.{Dirt, between, writes, leaves}
+use Rattle.emulation.specs.LeftBehind.{Dirt, between, writes}
 use Rattle.emulation.specs.Emulation.{WithPage, Alike, Reached}
 use Rattle.emulation.proofs.Between.{not-between}
-use Rattle.demand3.specs.Dirt.{clean, isShort, dirtied}
+use Rattle.demand3.specs.Dirt.{clean, dirtied}
 use Rattle.demand3.specs.Demand3.{Allowed, AllAllowed, dirtAfter, Demand3, isCore}
 use Rattle.demand3.proofs.Alike.{after, joined}
 use Rattle.demand3.proofs.Matched.{Matched}
@@ -107,12 +107,3 @@ follows (suc n) p q d x r F E S =
 pub demand3 : Demand3
 demand3 n p q S R =
     follows n p q clean p (R .none-stops) (R .all-allowed) (record { same-state = refl; same-length = refl; same-bytes = λ a h. refl }) S
-
--- the words of dirt are the paper's: the 16 directly below the sp at its start, and those between the old and the new sp
-pub sixteen-below : (e : Effect) (p : Place) (d : Dirt) (x : ℕ)
-    → let old : ℕ = p .state .sp .0 in
-    let new : ℕ = stateAfter (p .state) e .sp .0 in
-    dirtied e p d x
-    ≡ not (writes e x) && (d x || isShort (fetched p) && (between (4 * (old - 16)) (4 * old) x || between (4 * old) (4 * new) x))
-unfolding dirtied leaves
-sixteen-below e p d x = refl

@@ -35,15 +35,16 @@ caseFrom l bs from stack n pc sp top =
 abbrev case : ℕ → List ℕ → ℕ → ℕ → ℕ → ℕ → Case
 case l bs = caseFrom l bs pageLength (l / 4)
 
--- LESSTHAN with A = 80000000 and B = 1, and sp = 528: its 16 free words are the first above the page
-abbrev pub noWordToSpare : Case
-noWordToSpare = caseFrom 2560 (replicate 64 0 ++ (128 ∷ 0 ∷ 0 ∷ 0 ∷ 0 ∷ 0 ∷ 0 ∷ 1 ∷ 36 ∷ [])) 2120 528 1 2121 529 1
+-- LESSTHAN alone, with A = 80000000 and B = 1, and sp = 517: the words that it uses are the first above the page
+abbrev pub alone : Case
+alone = caseFrom 2112 (replicate 20 0 ++ (128 ∷ 0 ∷ 0 ∷ 0 ∷ 0 ∷ 0 ∷ 0 ∷ 1 ∷ 36 ∷ [])) 2076 517 1 2077 518 1
 
 unfoldable pub cases : List Case
 cases =
     -- LESSTHAN with A = 80000000 and B = 1
     case 2560 (129 ∷ 11 ∷ 248 ∷ 128 ∷ 128 ∷ 128 ∷ 128 ∷ 36 ∷ []) 8 2056 639 1
-    ∷ noWordToSpare
+    -- the same with sp = 528, to which a STORESP 0 has come: its 16 free words are the first above the page
+    ∷ caseFrom 2560 (replicate 64 0 ++ (128 ∷ 0 ∷ 0 ∷ 0 ∷ 0 ∷ 0 ∷ 0 ∷ 1 ∷ 80 ∷ 36 ∷ [])) 2120 527 2 2122 529 1
     -- LESSTHANOREQUAL to SUB and XOR, with B = 5 and A = 3
     ∷ case 2560 (133 ∷ 11 ∷ 131 ∷ 37 ∷ []) 4 2052 639 1
     ∷ case 2560 (133 ∷ 11 ∷ 131 ∷ 38 ∷ []) 4 2052 639 1
@@ -58,8 +59,8 @@ cases =
     ∷ case 2560 (255 ∷ 61 ∷ []) 2 2050 639 2552
     -- NEQBRANCH loops back twice: 3 is counted down to 0
     ∷ case 2560 (131 ∷ 11 ∷ 255 ∷ 5 ∷ 112 ∷ 252 ∷ 56 ∷ []) 17 2055 639 0
-    -- SUB, its result STOREd at 2112, LOADed again, and kept by a STORESP
-    ∷ case 2560 (133 ∷ 11 ∷ 131 ∷ 49 ∷ 144 ∷ 192 ∷ 12 ∷ 144 ∷ 192 ∷ 8 ∷ 112 ∷ 81 ∷ []) 12 2060 639 2
+    -- SUB, its result STOREd at 2048, LOADed again, and kept by a STORESP
+    ∷ case 2560 (133 ∷ 11 ∷ 131 ∷ 49 ∷ 144 ∷ 128 ∷ 12 ∷ 144 ∷ 128 ∷ 8 ∷ 112 ∷ 81 ∷ []) 12 2060 639 2
     -- the printed case of zpurun, up to its BREAK
     ∷ case 4096 (133 ∷ 11 ∷ 131 ∷ 49 ∷ 0 ∷ []) 4 2052 1023 2
     ∷ []

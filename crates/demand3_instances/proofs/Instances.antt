@@ -3,7 +3,7 @@ use Prim.Native.Nat.{ℕ, zero, suc, _+_, _-_, _*_, _≤_, _<_}
 use mathlib.Core.Path.{_≡_, refl, _∙_}
 use mathlib.Core.Bool.{Bool, true, false, not, _&&_, _||_}
 use mathlib.Core.List.{List, [], _∷_, _++_}
-use mathlib.Core.Logic.{inl, inr}
+use mathlib.Core.Logic.{inl}
 use mathlib.Core.Option.{Option, none, some}
 use native.Mathlib.Omega.{arith}
 use native.Mathlib.Nat.{not-suc-le-zero}
@@ -17,7 +17,7 @@ use Rattle.memory.proofs.Tests.{In, both, holds, true-is, every, at-entry, at-e
 use Rattle.memory.proofs.Memory.{read-alike}
 use Rattle.arithmetic.specs.Words.{signed, wordOf, flipped}
 use Rattle.arithmetic.specs.Operations.{unaryOf, binaryOf}
-use Rattle.machine.specs.declared.Core.the-variants.{Wide}
+use Rattle.machine.specs.declared.Core.the-variants.{Narrow, Wide}
 use Rattle.machine.specs.State.{Place, fetched}
 use Rattle.machine.specs.Effects.{Effect, Effect.refuse, Effect.stop, Effect.go, landed}
 use Rattle.machine.specs.Instructions.{decode, below32, below64}
@@ -25,6 +25,7 @@ use Rattle.machine.specs.Table.{row, effectOf, stepOf}
 use Rattle.machine.specs.Run.{steps}
 use Rattle.routines.specs.Constants.{pageLength, firstStackWord, freeWords, stepBound}
 use Rattle.routines.specs.Page.{page}
+use Rattle.routines.specs.Shorts.{Short}
 use Rattle.routines.proofs.Rule.{page-length}
 use Rattle.emulation.specs.LeftBehind.{Dirt, writes, leaves}
 use Rattle.emulation.specs.Emulation.{WithPage, Reached, dirtOf}
@@ -33,7 +34,7 @@ use Rattle.emulation.proofs.Theorem.{emulates}
 use Rattle.demand3.specs.Dirt.{clean, isShort, dirtied}
 use Rattle.demand3.specs.Demand3.{isCore, spans, Clean, AllClean, Allowed, AllAllowed, dirtAfter, WideRun}
 use Rattle.demand3.proofs.Theorem.{demand3}
-use Rattle.demand3_instances.proofs.Cases.{Case, start, noWordToSpare, cases}
+use Rattle.demand3_instances.proofs.Cases.{Case, start, alone, cases}
 
 -- the hypotheses as tests
 abbrev isClean : Dirt → ℕ → ℕ → Bool
@@ -152,7 +153,6 @@ are-bytes m h a =
 
 -- what the wide core reaches, and that the narrow core follows there
 pub record Instance (c : Case) : Type 0 where
-  pub start-paged : WithPage (start c)
   pub end : Place
   pub run : WideRun (c .count) (start c) end
   pub counter : end .state .pc .0 ≡ c .counter
@@ -171,7 +171,6 @@ arrived c S F k (some q) e h =
     let f = demand3 (c .count) (start c) q S r in
     let top : word (q .memory) (c .sp) ≡ c .top = eqb-true _ _ (t 2 (lit< tt)) in
     record {
-      start-paged = S;
       end = q;
       run = r;
       counter = eqb-true _ _ (t 0 (lit< tt));
@@ -181,25 +180,47 @@ arrived c S F k (some q) e h =
       narrow-top = read-alike (q .memory) (f .end .memory) (4 * c .sp) 4 (λ j l. f .alike .same-bytes (4 * c .sp + j) (k j l)) ∙ top;
     }
 
+is-paged : (c : Case) → goodLength (length (start c .memory)) ≡ true → every isByte (start c .memory) ≡ true → WithPage (start c)
+is-paged c l b = record {
+  good-length = l;
+  bytes = are-bytes (start c .memory) b;
+  page-in-place = take-at page (c .program ++ replicate (c .size - pageLength - length (c .program)) 0) pageLength page-length;
+}
+
 pub instances : {c : Case} → In c cases → Instance c
 instances {c} i =
     let t = at-each (λ t. t) false (hypotheses c) (at-entry (λ c. all (hypotheses c)) cases all-hold i) in
-    let S : WithPage (start c) = record {
-      good-length = t 0 (lit< tt);
-      bytes = are-bytes (start c .memory) (t 1 (lit< tt));
-      page-in-place = take-at page (c .program ++ replicate (c .size - pageLength - length (c .program)) 0) pageLength page-length;
-    } in
-    arrived c S (are-allowed (c .count) (start c) clean (t 2 (lit< tt)))
+    arrived c (is-paged c (t 0 (lit< tt)) (t 1 (lit< tt))) (are-allowed (c .count) (start c) clean (t 2 (lit< tt)))
     (is-clean (dirtAfter (c .count) (start c) clean) (4 * c .sp) 4 (t 4 (lit< tt)))
     (steps Wide (c .count) (start c)) refl (t 3 (lit< tt))
 
-pub no-word-to-spare : Instance noWordToSpare
-unfolding cases
-no-word-to-spare = instances (inr (inl refl))
+-- `Emulated` is not empty either: LESSTHAN alone
+abbrev alone-hypotheses : List Bool
+alone-hypotheses =
+    goodLength (length (start alone .memory))
+    ∷ every isByte (start alone .memory)
+    ∷ arrives alone (steps Wide 1 (start alone))
+    ∷ []
 
--- `Emulated` is not empty: LESSTHAN from there meets its hypotheses
-pub less-than-owes : Reached 23 (start noWordToSpare) (no-word-to-spare .end) (dirtOf 5 (start noWordToSpare) (no-word-to-spare .end))
+alone-holds : all alone-hypotheses ≡ true
+unfolding page goodLength steps stepOf effectOf row decode below64 binaryOf getBytes setBytes signed
+alone-holds = refl
+
+pub less-than-owes : (q : Place) × Reached 23 (start alone) q (dirtOf 5 (start alone) q)
 unfolding page
-less-than-owes =
-    emulates {o = record { byte = 36; steps = 23; words = 5 }} (inl refl) (start noWordToSpare) (no-word-to-spare .end) (no-word-to-spare .start-paged)
-    refl (omega arith) (no-word-to-spare .run .none-stops)
+less-than-owes = by (steps Wide 1 (start alone)) refl (t 2 (lit< tt))
+  where
+    t : (j : ℕ) → j < 3 → getD alone-hypotheses j false ≡ true
+    t = at-each (λ t. t) false alone-hypotheses alone-holds
+
+    by : (r : Option Place) → steps Wide 1 (start alone) ≡ r → arrives alone r ≡ true
+        → (q : Place) × Reached 23 (start alone) q (dirtOf 5 (start alone) q)
+    by none e h = let z : _≡_ {A = ℕ} 0 1 = cc in absurd (omega arith)
+    by (some q) e h =
+        let less-than : Short = record { byte = 36; steps = 23; words = 5 } in
+        (q, emulates {o = less-than} (inl refl) (start alone) q (is-paged alone (t 0 (lit< tt)) (t 1 (lit< tt))) refl (omega arith) e)
+
+-- and the narrow core does take 23 steps
+pub narrow-alone : arrives alone (steps Narrow 23 (start alone)) ≡ true
+unfolding page steps stepOf effectOf row decode below32 below64 unaryOf binaryOf getBytes setBytes flipped
+narrow-alone = refl

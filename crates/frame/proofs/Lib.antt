@@ -1,3 +1,4 @@
 pub mod Frame
 pub mod Window
 pub mod Follows
+pub mod StraightCode

@@ -59,15 +59,14 @@ module _ (S : Space) where
     pub from : (m : List ℕ) → Holds x m → Arrives n (placed x m) y
 
 module _ {S : Space} where
-  pub further : {n k : ℕ} {p q : Place} {y : Stand} (j : ℕ) → j ≤ n → steps Narrow j p ≡ some q → Arrives S k q y → Arrives S (n + k) p y
-  further {p = p} {q = q} j l e a = record {
-    count = j + a .count;
-    within = omega (arith, a .within);
-    memory = a .memory;
-    reached = steps-add Narrow j (a .count) p q e ∙ a .reached;
-    holds = a .holds;
-  }
-
   infixl 5 _then_
   pub _then_ : {n k : ℕ} {p : Place} {x y : Stand} → Arrives S n p x → Leads S k x y → Arrives S (n + k) p y
-  _then_ a l = further (a .count) (a .within) (a .reached) (l .from (a .memory) (a .holds))
+  _then_ {p = p} {x = x} a l =
+      let b = l .from (a .memory) (a .holds) in
+      record {
+        count = a .count + b .count;
+        within = omega (arith, a .within, b .within);
+        memory = b .memory;
+        reached = steps-add Narrow (a .count) (b .count) p (placed S x (a .memory)) (a .reached) ∙ b .reached;
+        holds = b .holds;
+      }

@@ -6,6 +6,7 @@ use lib.ListN.{length, getD, take, drop, List·getD-map}
 use lib.Seq.{getD-take, getD-drop}
 use Rattle.machine.specs.declared.Core.the-variants.{Narrow}
 use Rattle.machine.specs.Instructions.{Instr, Instr.BREAK, decode, below32}
+use Rattle.frame.proofs.StraightCode.{Code}
 use Rattle.routines.specs.Constants.{pageLength}
 use Rattle.routines.specs.Routines.{Line}
 use Rattle.routines.specs.Page.{page}
@@ -15,9 +16,9 @@ abbrev pub code : List Line → List Instr
 code ls = map (λ l. l .1) ls
 
 -- the page has this code from address c on
-pub record Code (c : ℕ) (is : List Instr) : Type 0 where
+pub record InPage (c : ℕ) (is : List Instr) : Type 0 where
   pub inside : c + length is ≤ pageLength
-  pub each : (j : ℕ) → j < length is → decode Narrow (getD page (c + j) 0) ≡ getD is j BREAK
+  pub each : Code page c is
 
 -- the n bytes of the page from address c on
 abbrev pub bytesAt : ℕ → ℕ → List ℕ
@@ -30,7 +31,7 @@ abbrev pub codeAt : ℕ → ℕ → List Instr
 codeAt c n = map (decode Narrow) (bytesAt c n)
 
 -- by one computation
-pub stands : (c : ℕ) (is : List Instr) → codeAt c (length is) ≡ is → c + length is ≤ pageLength → Code c is
+pub stands : (c : ℕ) (is : List Instr) → codeAt c (length is) ≡ is → c + length is ≤ pageLength → InPage c is
 unfolding decode below32
 stands c is same inside = record {
   inside = inside;

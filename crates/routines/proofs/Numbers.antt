@@ -6,6 +6,7 @@ use borrow.Author.Tests.{leb-true}
 use lib.Dec.{leb}
 use Rattle.memory.proofs.Tests.{In, both, every, at-entry}
 use Rattle.routines.specs.Constants.{pageLength, firstStackWord, freeWords, stepBound}
+use Rattle.routines.specs.Page.{vector}
 use Rattle.routines.specs.Shorts.{Short, shorts}
 
 -- the steps of each are within the bound, and its words are among those that are free
@@ -31,3 +32,7 @@ free-words = (refl, refl)
 -- 200 times n
 pub bound : (n : ℕ) → stepBound * n ≡ 200 * n
 bound n = refl
+
+-- byte 49 goes to 544
+pub vector-49 : vector 49 ≡ 544
+vector-49 = refl

@@ -5,8 +5,10 @@ use mathlib.Core.Bool.{false, cond}
 use mathlib.Core.List.{List, [], _∷_, map}
 use lib.ListN.{take}
 use Rattle.memory.proofs.Tests.{In}
-use Rattle.arithmetic.specs.Words.{wrap}
+use Rattle.arithmetic.specs.Words.{wrap, flipped}
+use Rattle.arithmetic.specs.Operations.{unaryOf, binaryOf}
 use Rattle.frame.proofs.Frame.{Frame, Frame.running, Frame.left, Frame.stuck, through}
+use Rattle.routines.specs.Routines.{lessThan}
 use Rattle.routines.proofs.Entries.{Each, Each.end, Each._&_, law-at, same-at}
 use Rattle.routines.proofs.InPage.{code}
 use Rattle.routines.proofs.Comparisons.{less-than, less-than-or-equal, u-less-than, u-less-than-or-equal}
@@ -22,6 +24,11 @@ abbrev words : Frame → List ℕ
 words (running p f ws) = ws
 words (left w p ws) = ws
 words stuck = []
+
+-- LESSTHAN where A - B wraps: A = 80000000 and B = 1
+pub wide-slur : through 0 (code lessThan) 4 false (2101 ∷ 2147483648 ∷ 1 ∷ []) ≡ left 2101 6 (1 ∷ [])
+unfolding through unaryOf binaryOf flipped
+wide-slur = refl
 
 -- EMULATE at counter c has pushed the return address r; a and b are the operands, and word base is the lowest that the routine uses
 module _ (base c : ℕ) {r a b : ℕ} (return : r ≡ wrap (c + 1)) (hA : a < 2 ^ 32) (hB : b < 2 ^ 32) where

@@ -23,7 +23,7 @@ use Rattle.routines.specs.Routines.{Line, lessThan, lessThanOrEqual, uLe
 use Rattle.routines.specs.Page.{vector, page}
 use Rattle.routines.specs.Shorts.{Short, shorts}
 use Rattle.routines.proofs.Entries.{Each, Each.end, Each._&_, same-at}
-use Rattle.routines.proofs.InPage.{Code, code, codeAt, stands}
+use Rattle.routines.proofs.InPage.{InPage, code, codeAt, stands}
 
 -- how many words it pops off; whether it leaves a word on top; where it goes, from the counter, A and B; which word it leaves, from
 -- the counter, sp, A and B; its routine; and the words below the return address that the routine uses
@@ -82,7 +82,7 @@ endsInPage o = leb (vector (o .byte) + length (code (o .lines))) pageLength
 all-end : every endsInPage rows ≡ true
 all-end = refl
 
-pub at-vector : {o : Straight} → In o rows → Code (vector (o .byte)) (code (o .lines))
+pub at-vector : {o : Straight} → In o rows → InPage (vector (o .byte)) (code (o .lines))
 at-vector {o} i =
     stands (vector (o .byte)) (code (o .lines)) (same-at inPage (λ o. code (o .lines)) rows same-code i)
     (leb-true _ _ (at-entry endsInPage rows all-end i))
