@@ -1,4 +1,4 @@
--- Places that are alike but for dirty bytes: one effect at both leaves them so.
+-- Places that are alike but for dirty bytes.
 use Prim.Native.Nat.{ℕ, _+_}
 use mathlib.Core.Path.{_≡_, refl, sym, _∙_}
 use mathlib.Core.Bool.{false}
@@ -12,6 +12,10 @@ use Rattle.emulation.specs.Emulation.{Alike}
 use Rattle.emulation.proofs.Between.{outside}
 use Rattle.demand3.specs.Dirt.{dirtied}
 
+pub itself : {d : Dirt} {p : Place} → Alike d p p
+itself = record { same-state = refl; same-length = refl; same-bytes = λ a h. refl }
+
+-- one effect at both leaves them so
 pub after : {d : Dirt} {p x : Place} → Alike d p x → (e : Effect) → Goes e → Alike (dirtied e p d) (landed e p) (landed e x)
 unfolding dirtied
 after E (refuse o) g = absurd g

@@ -1,12 +1,14 @@
 -- A core instruction: both cores have the same effect.
-use Prim.Native.Nat.{ℕ, _≤_, _<_}
+use Prim.Native.Nat.{ℕ}
 use mathlib.Core.Path.{_≡_, refl, _∙_}
-use mathlib.Core.Bool.{false, _||_}
+use mathlib.Core.Logic.{inl, inr}
+use mathlib.Core.Bool.{false}
 use mathlib.Core.Option.{some}
 use native.Mathlib.Omega.{arith}
-use native.Mathlib.Decide.{decLt}
-use borrow.Author.Tests.{lt-ltb, le-ltb}
-use lib.Dec.{T, ltb, leb, leb→le}
+use borrow.Author.Tests.{lt-ltb, le-ltb, not-true}
+use lib.Dec.{T}
+use Rattle.memory.proofs.Memory.{Outside}
+use Rattle.memory.proofs.Tests.{true-is}
 use Rattle.machine.specs.declared.Core.the-variants.{Narrow, Wide}
 use Rattle.machine.specs.State.{Place, fetched}
 use Rattle.machine.specs.Effects.{Effect, landed}
@@ -15,20 +17,18 @@ use Rattle.machine.specs.Table.{stepOf}
 use Rattle.laws.proofs.Steps.{Goes, goes-on, one-step}
 use Rattle.emulation.specs.LeftBehind.{Dirt}
 use Rattle.emulation.specs.Emulation.{Alike}
+use Rattle.emulation.proofs.Between.{not-between}
 use Rattle.demand3.specs.Demand3.{Allowed, isCore}
-use Rattle.demand3.proofs.Dependence.{same-step}
+use Rattle.demand3.proofs.Alike.{itself}
+use Rattle.demand3.proofs.Dependence.{same-byte, same-step}
 use Rattle.demand3.proofs.Matched.{Matched}
 
 same-decode : (b : ℕ) → T (isCore b) → decode Narrow b ≡ decode Wide b
-unfolding decode
-same-decode b h = by (decLt b 32)
+same-decode b h = by (not-between 32 64 b (not-true _ (true-is _ h)))
   where
-    high : T (ltb b 32 || leb 64 b) → 32 ≤ b → 64 ≤ b
-    high t l = leb→le 64 b (rw (le-ltb b 32 l) at t)
-
-    by : Dec (b < 32) → decode Narrow b ≡ decode Wide b
-    by (yes l) = unfold decode in (rw (lt-ltb b 32 l))
-    by (no l) = unfold decode in (rw (le-ltb b 32 (omega arith), le-ltb b 64 (high h (omega arith))))
+    by : Outside 32 64 b → decode Narrow b ≡ decode Wide b
+    by (inl l) = unfold decode in (rw (lt-ltb b 32 l))
+    by (inr l) = unfold decode in (rw (le-ltb b 32 (omega arith), le-ltb b 64 l))
 
 same-core : (x : Place) → T (isCore (fetched x)) → stepOf Narrow x ≡ stepOf Wide x
 unfolding stepOf
@@ -38,8 +38,7 @@ pub core-step : {p x : Place} {d : Dirt} → Alike d p x → Allowed p d → Goe
     → Matched (stepOf Wide p) p d x
 core-step {p} {x} {d} E F g c =
     let e : Effect = stepOf Wide p in
-    let same-byte : fetched x ≡ fetched p = rw (E .same-state) (E .same-bytes (p .state .pc .0) (F .fetch-clean)) in
-    let same : stepOf Narrow x ≡ e = same-core x (rw same-byte c) ∙ same-step E F in
+    let same : stepOf Narrow x ≡ e = same-core x (rw (same-byte E F) c) ∙ same-step E F in
     record {
       bound = 1;
       few = omega arith;
@@ -49,7 +48,7 @@ core-step {p} {x} {d} E F g c =
         within-bound = omega arith;
         end = landed e x;
         reached = one-step Narrow x _ (rw same (goes-on e x some g));
-        alike = record { same-state = refl; same-length = refl; same-bytes = λ a h. refl };
+        alike = itself;
       };
       no-more = λ a h. refl;
       off-page = λ a h. refl;

@@ -8,7 +8,7 @@ use Rattle.memory.specs.Memory.{getBytes}
 use Rattle.memory.proofs.Memory.{read-alike}
 use Rattle.machine.specs.declared.Core.the-variants.{Wide}
 use Rattle.machine.specs.declared.State.{State}
-use Rattle.machine.specs.State.{Place}
+use Rattle.machine.specs.State.{Place, fetched}
 use Rattle.machine.specs.Effects.{Effect}
 use Rattle.machine.specs.Instructions.{Instr, Instr.IM, Instr.STORESP, Instr.LOADSP, Instr.EMULATE, Instr.ADDSP, Instr.PUSHSP, Instr.POPSP, Instr.POPPC, Instr.NOP, Instr.BREAK, Instr.ILLEGAL, Instr.PUSHSPADD, Instr.CALL, Instr.CALLPCREL, Instr.POPPCREL, Instr.PUSHPC, Instr.NEQBRANCH, Instr.EQBRANCH, Instr.unary, Instr.binary, Instr.division, Instr.load, Instr.store}
 use Rattle.machine.specs.Table.{Act.goes, Row, B, row, reading, doing, effectOf, stepOf}
@@ -68,6 +68,9 @@ module _ {d : Dirt} {p x : Place} (E : Alike d p x) where
   same-effect (division op) c = rw (E .same-length, read _ _ (c .0), read _ _ (c .1 .0))
   same-effect (load w) c = rw (E .same-length, read _ _ (c .0), read _ _ (c .1 .0))
   same-effect (store w) c = rw (E .same-length, read _ _ (c .0), read _ _ (c .1 .0))
+
+pub same-byte : {d : Dirt} {p x : Place} → Alike d p x → Allowed p d → fetched x ≡ fetched p
+same-byte {p = p} E F = rw (E .same-state) (E .same-bytes (p .state .pc .0) (F .fetch-clean))
 
 -- so a wide step has one effect at places that are alike
 pub same-step : {d : Dirt} {p x : Place} → Alike d p x → Allowed p d → stepOf Wide x ≡ stepOf Wide p

@@ -3,9 +3,6 @@ use Prim.Native.Nat.{ℕ, suc, _-_, _*_, _≤_}
 use mathlib.Core.Path.{_≡_, refl}
 use mathlib.Core.Bool.{false, not, _&&_, _||_}
 use mathlib.Core.Option.{some}
-use native.Mathlib.Omega.{arith}
-use native.Mathlib.Decide.{decLt}
-use borrow.Author.Tests.{lt-ltb, le-ltb, lt-leb, le-leb}
 use Rattle.machine.specs.declared.Core.the-variants.{Narrow, Wide}
 use Rattle.machine.specs.State.{Place, fetched}
 use Rattle.machine.specs.Effects.{Effect, stateAfter, landed}
@@ -14,7 +11,7 @@ use Rattle.machine.specs.Run.{steps}
 use Rattle.emulation.specs.LeftBehind.{Dirt, between, writes, leaves}
 use Rattle.emulation.specs.Emulation.{WithPage}
 use Rattle.demand3.specs.Dirt.{clean, isShort, dirtied}
-use Rattle.demand3.specs.Demand3.{isCore, dirtAfter, WideRun}
+use Rattle.demand3.specs.Demand3.{dirtAfter, WideRun}
 use Rattle.demand3.proofs.Theorem.{demand3}
 
 -- at most 200 times n steps, of the narrow core
@@ -22,17 +19,6 @@ pub two-hundred-times : (n : ℕ) (p q : Place) (S : WithPage p) (R : WideRun n 
     → let r = demand3 n p q S R in
     (r .count ≤ 200 * n) × (steps Narrow (r .count) p ≡ some (r .end))
 two-hundred-times n p q S R = let r = demand3 n p q S R in (r .within-bound, r .reached)
-
--- the core instructions are all bytes but 32 to 63
-pub core-bytes : (b : ℕ) → isCore b ≡ not (between 32 64 b)
-core-bytes b =
-    elim (decLt b 32) [
-      | yes l ↦ rw (lt-ltb b 32 l, lt-leb 32 b l)
-      | no l ↦ elim (decLt b 64) [
-        | yes k ↦ rw (le-ltb b 32 (omega arith), le-leb 32 b (omega arith), lt-ltb b 64 k, lt-leb 64 b k)
-        | no k ↦ rw (le-ltb b 32 (omega arith), le-leb 32 b (omega arith), le-ltb b 64 (omega arith), le-leb 64 b (omega arith))
-      ]
-    ]
 
 -- at the start no byte is dirty
 pub none-dirty : (a : ℕ) → clean a ≡ false

@@ -8,6 +8,7 @@ use mathlib.Core.Option.{some}
 use native.Mathlib.Omega.{arith}
 use borrow.Author.Tests.{eqb-true}
 use lib.Dec.{T, eqb}
+use Rattle.memory.proofs.Memory.{narrower}
 use Rattle.memory.proofs.Tests.{In, true-is, neither}
 use Rattle.machine.specs.declared.Core.the-variants.{Wide}
 use Rattle.machine.specs.State.{Place, fetched}
@@ -21,25 +22,25 @@ use Rattle.routines.specs.Shorts.{Short, shorts}
 use Rattle.routines.proofs.Numbers.{within-both}
 use Rattle.emulation.specs.LeftBehind.{Dirt, writes, leaves}
 use Rattle.emulation.specs.Emulation.{WithPage, Alike, dirtOf}
-use Rattle.emulation.proofs.Between.{not-between, outside, narrower}
+use Rattle.emulation.proofs.Between.{not-between, outside}
 use Rattle.emulation.proofs.Theorem.{emulates}
 use Rattle.demand3.specs.Dirt.{isShort, dirtied}
 use Rattle.demand3.specs.Demand3.{Allowed}
-use Rattle.demand3.proofs.Dependence.{same-step}
+use Rattle.demand3.proofs.Dependence.{same-byte, same-step}
 use Rattle.demand3.proofs.Matched.{Matched}
 
 -- an entry of os whose byte is b
 abbrev OneOf : ℕ → List Short → Type 0
 OneOf b os = (o : Short) × In o os × (b ≡ o .byte)
 
-abbrev Among : ℕ → List Short → Bool
-Among b os = among b (map (λ o. o .byte) os)
+abbrev amongBytes : ℕ → List Short → Bool
+amongBytes b os = among b (map (λ o. o .byte) os)
 
-found : (b : ℕ) (os : List Short) → T (Among b os) → OneOf b os
+found : (b : ℕ) (os : List Short) → T (amongBytes b os) → OneOf b os
 found b [] t = absurd t
 found b (o ∷ os) t = by (eqb b (o .byte)) refl t (λ u. found b os u)
   where
-    by : (x : Bool) → eqb b (o .byte) ≡ x → T (x || Among b os) → (T (Among b os) → OneOf b os) → OneOf b (o ∷ os)
+    by : (x : Bool) → eqb b (o .byte) ≡ x → T (x || amongBytes b os) → (T (amongBytes b os) → OneOf b os) → OneOf b (o ∷ os)
     by true e u rest = (o, inl refl, eqb-true b (o .byte) e)
     by false e u rest = let (r, i, k) = rest u in (r, inr i, k)
 
@@ -69,9 +70,9 @@ module _ {d : Dirt} {p x : Place} (E : Alike d p x) (F : Allowed p d) (going : G
   new = stateAfter (p .state) e .sp .0
 
   -- what is clean by the words of demand 3 is clean by those of the instruction
-  dirty : (w a : ℕ) → w ≤ freeWords → dirtied e p d a ≡ false → not (writes e a) && leaves w (p .state .sp .0) new a ≡ false
+  still-clean : (w a : ℕ) → w ≤ freeWords → dirtied e p d a ≡ false → not (writes e a) && leaves w (p .state .sp .0) new a ≡ false
   unfolding dirtied
-  dirty w a l h = by (writes e a) (omega arith) h
+  still-clean w a l h = by (writes e a) (omega arith) h
     where
       by : (t : Bool) {n : ℕ} → w ≤ n → not t && (d a || isShort (fetched p) && leaves n (p .state .sp .0) new a) ≡ false
           → not t && leaves w (p .state .sp .0) new a ≡ false
@@ -81,16 +82,15 @@ module _ {d : Dirt} {p x : Place} (E : Alike d p x) (F : Allowed p d) (going : G
   pub short-step : Matched e p d x
   short-step =
       let (o, member, here) = the-short (fetched p) short in
-      let (steps, words) = within-both member in
+      let (few, words) = within-both member in
       let same : stepOf Wide x ≡ e = same-step E F in
-      let byte : fetched x ≡ o .byte = rw (E .same-state) (E .same-bytes (p .state .pc .0) (F .fetch-clean)) ∙ here in
       let room : firstStackWord + o .words ≤ p .state .sp .0 = omega (arith, F .room short) in
       record {
         bound = o .steps;
-        few = steps;
+        few = few;
         dirt = dirtOf (o .words) x (landed e x);
-        reaches = emulates member x (landed e x) start byte (rw (E .same-state) room)
+        reaches = emulates member x (landed e x) start (same-byte E F ∙ here) (rw (E .same-state) room)
             (one-step Wide x _ (rw same (goes-on e x some going)));
-        no-more = λ a h. rw (same, E .same-state) (dirty (o .words) a words h);
+        no-more = λ a h. rw (same, E .same-state) (still-clean (o .words) a words h);
         off-page = λ a l. rw (same, E .same-state, above-page (o .words) (p .state .sp .0) new a room l) (and-false (not (writes e a)));
       }

@@ -22,7 +22,7 @@ use Rattle.emulation.specs.Emulation.{WithPage, Alike, Reached}
 use Rattle.emulation.proofs.Between.{not-between}
 use Rattle.demand3.specs.Dirt.{clean, dirtied}
 use Rattle.demand3.specs.Demand3.{Allowed, AllAllowed, dirtAfter, Demand3, isCore}
-use Rattle.demand3.proofs.Alike.{after, joined}
+use Rattle.demand3.proofs.Alike.{itself, after, joined}
 use Rattle.demand3.proofs.Matched.{Matched}
 use Rattle.demand3.proofs.CoreStep.{core-step}
 use Rattle.demand3.proofs.ShortStep.{short-step}
@@ -36,11 +36,11 @@ any-step {d} {p} {x} E F g S = by (isCore (fetched p)) refl
     by false e = short-step E F g (rw e at (F .core-or-short)) S
 
 -- an effect that keeps off the page leaves its bytes
-page-bytes : (m : List ℕ) (e : Effect) → ((a : ℕ) → T (writes e a) → pageLength ≤ a) → (a : ℕ) → a < pageLength
+page-stays : (m : List ℕ) (e : Effect) → ((a : ℕ) → T (writes e a) → pageLength ≤ a) → (a : ℕ) → a < pageLength
     → getD (memoryAfter m e) a 0 ≡ getD m a 0
-page-bytes m (refuse o) k a h = refl
-page-bytes m (stop t) k a h = refl
-page-bytes m (go t b n v) k a h = outside-same m b n v a (off (between b (b + n) a) refl)
+page-stays m (refuse o) k a h = refl
+page-stays m (stop t) k a h = refl
+page-stays m (go t b n v) k a h = outside-same m b n v a (off (between b (b + n) a) refl)
   where
     off : (t : Bool) → between b (b + n) a ≡ t → Outside b (b + n) a
     off true e = absurd (omega (arith, k a (holds e)))
@@ -78,7 +78,7 @@ module _ {d : Dirt} {p x : Place} (E : Alike d p x) (F : Allowed p d) (g : Goes 
     bytes = steps-keep Narrow Bytes written-bytes (one .reaches .count) x y (one .reaches .reached) (S .bytes);
     page-in-place =
         same-page (x .memory) (y .memory) same-length
-        (λ a h. one .reaches .alike .same-bytes a (one .off-page a h) ∙ page-bytes (x .memory) e (F .page-kept) a h)
+        (λ a h. one .reaches .alike .same-bytes a (one .off-page a h) ∙ page-stays (x .memory) e (F .page-kept) a h)
         ∙ S .page-in-place;
   }
 
@@ -106,4 +106,4 @@ follows (suc n) p q d x r F E S =
 
 pub demand3 : Demand3
 demand3 n p q S R =
-    follows n p q clean p (R .none-stops) (R .all-allowed) (record { same-state = refl; same-length = refl; same-bytes = λ a h. refl }) S
+    follows n p q clean p (R .none-stops) (R .all-allowed) itself S

@@ -4,10 +4,10 @@
 -- the same program counter, stack pointer, immediate flag and every byte that isn't dirty.
 use Prim.Native.Nat.{ℕ, zero, suc, _+_, _*_, _≤_, _<_}
 use mathlib.Core.Path.{_≡_}
-use mathlib.Core.Bool.{Bool, false, _||_}
+use mathlib.Core.Bool.{Bool, false, not, _||_}
 use mathlib.Core.List.{List, [], _∷_, _++_, map}
 use mathlib.Core.Option.{some}
-use lib.Dec.{T, ltb, leb}
+use lib.Dec.{T}
 use Rattle.machine.specs.declared.Core.the-variants.{Wide}
 use Rattle.machine.specs.State.{Place, fetched}
 use Rattle.machine.specs.Effects.{landed}
@@ -15,13 +15,13 @@ use Rattle.machine.specs.Instructions.{decode}
 use Rattle.machine.specs.Table.{Row, row, stepOf}
 use Rattle.machine.specs.Run.{steps}
 use Rattle.routines.specs.Constants.{pageLength, firstStackWord, freeWords, stepBound}
-use Rattle.emulation.specs.LeftBehind.{Dirt, writes}
+use Rattle.emulation.specs.LeftBehind.{Dirt, between, writes}
 use Rattle.emulation.specs.Emulation.{WithPage, Reached}
 use Rattle.demand3.specs.Dirt.{clean, isShort, dirtied}
 
 -- a core instruction: none of the bytes 32 to 63
 abbrev pub isCore : ℕ → Bool
-isCore b = ltb b 32 || leb 64 b
+isCore b = not (between 32 64 b)
 
 -- what a row reads, by address and number of bytes: its stack words, and what it loads
 abbrev pub spans : Row → List (ℕ × ℕ)

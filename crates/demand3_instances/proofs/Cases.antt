@@ -45,7 +45,7 @@ cases =
     case 2176 (129 ∷ 11 ∷ 248 ∷ 128 ∷ 128 ∷ 128 ∷ 128 ∷ 36 ∷ []) 8 2056 543 1
     -- the same with sp = 528, to which a STORESP 0 has come: its 16 free words are the first above the page
     ∷ caseFrom 2176 (replicate 64 0 ++ (128 ∷ 0 ∷ 0 ∷ 0 ∷ 0 ∷ 0 ∷ 0 ∷ 1 ∷ 80 ∷ 36 ∷ [])) 2120 527 2 2122 529 1
-    -- LESSTHANOREQUAL to SUB and XOR, with B = 5 and A = 3
+    -- 37, 38, 39, 46, 47, 49 and 50, with B = 5 and A = 3
     ∷ case 2176 (133 ∷ 11 ∷ 131 ∷ 37 ∷ []) 4 2052 543 1
     ∷ case 2176 (133 ∷ 11 ∷ 131 ∷ 38 ∷ []) 4 2052 543 1
     ∷ case 2176 (133 ∷ 11 ∷ 131 ∷ 39 ∷ []) 4 2052 543 1

@@ -44,13 +44,13 @@ isClean d a (suc k) = isClean d a k && not (d (a + k))
 abbrev areClean : Dirt → List (ℕ × ℕ) → Bool
 areClean d bs = every (λ b. isClean d (b .0) (b .1)) bs
 
-abbrev inPage : ℕ → Bool
-inPage x = ltb x pageLength
+abbrev isInPage : ℕ → Bool
+isInPage x = ltb x pageLength
 
 abbrev keepsPage : Effect → Bool
 keepsPage (refuse o) = true
 keepsPage (stop t) = true
-keepsPage (go t a k v) = isClean inPage a k
+keepsPage (go t a k v) = isClean isInPage a k
 
 abbrev all : List Bool → Bool
 all ts = every (λ t. t) ts
@@ -82,12 +82,19 @@ arrives c (some q) = all (reached c q)
 abbrev isByte : ℕ → Bool
 isByte b = ltb b 256
 
-abbrev hypotheses : Case → List Bool
-hypotheses c =
+-- the page is in place, and the wide core arrives where the case says
+abbrev begins : Case → List Bool
+begins c =
     goodLength (length (start c .memory))
     ∷ every isByte (start c .memory)
-    ∷ allAllowed (c .count) (start c) clean
     ∷ arrives c (steps Wide (c .count) (start c))
+    ∷ []
+
+-- each step is allowed, and the top is clean then
+abbrev hypotheses : Case → List Bool
+hypotheses c =
+    all (begins c)
+    ∷ allAllowed (c .count) (start c) clean
     ∷ isClean (dirtAfter (c .count) (start c) clean) (4 * c .sp) 4
     ∷ []
 
@@ -118,11 +125,11 @@ kept (refuse o) h a w = absurd w
 kept (stop t) h a w = absurd w
 kept (go t b k v) h a w =
     let (low, high) = is-between b (b + k) a (true-is _ w) in
-    omega (arith, ltb-false (b + (a - b)) pageLength (is-clean inPage b k h (a - b) (omega arith)))
+    omega (arith, ltb-false (b + (a - b)) pageLength (is-clean isInPage b k h (a - b) (omega arith)))
 
-has-room : (t u : Bool) → not t || u ≡ true → T t → u ≡ true
-has-room true u e h = e
-has-room false u e h = absurd h
+implied : (t u : Bool) → not t || u ≡ true → T t → u ≡ true
+implied true u e h = e
+implied false u e h = absurd h
 
 is-allowed : (p : Place) (d : Dirt) → all (tests p d) ≡ true → Allowed p d
 is-allowed p d h =
@@ -130,7 +137,7 @@ is-allowed p d h =
     record {
       core-or-short = holds (t 0 (lit< tt));
       page-kept = kept (stepOf Wide p) (t 1 (lit< tt));
-      room = λ s. leb-true (firstStackWord + freeWords) (p .state .sp .0) (has-room (isShort (fetched p)) _ (t 2 (lit< tt)) s);
+      room = λ s. leb-true (firstStackWord + freeWords) (p .state .sp .0) (implied (isShort (fetched p)) _ (t 2 (lit< tt)) s);
       fetch-clean = not-true (d (p .state .pc .0)) (t 3 (lit< tt));
       reads-clean = are-clean d (spans (row (p .memory) (p .state) (decode Wide (fetched p)))) (t 4 (lit< tt));
     }
@@ -151,74 +158,78 @@ are-bytes m h a =
       | no l ↦ rw (List·getD-eq-default m 0 {n = a} (omega arith)) (omega arith)
     ]
 
--- what the wide core reaches, and that the narrow core follows there
-pub record Instance (c : Case) : Type 0 where
+-- where the wide core arrives
+pub record Arrival (c : Case) : Type 0 where
+  pub start-paged : WithPage (start c)
   pub end : Place
-  pub run : WideRun (c .count) (start c) end
+  pub none-stops : steps Wide (c .count) (start c) ≡ some end
   pub counter : end .state .pc .0 ≡ c .counter
   pub sp : end .state .sp .0 ≡ c .sp
   pub top : word (end .memory) (c .sp) ≡ c .top
-  pub follows : Reached (stepBound * c .count) (start c) end (dirtAfter (c .count) (start c) clean)
-  pub narrow-top : word (follows .end .memory) (c .sp) ≡ c .top
 
-arrived : (c : Case) → WithPage (start c) → AllAllowed (c .count) (start c) clean
-    → ((j : ℕ) → j < 4 → dirtAfter (c .count) (start c) clean (4 * c .sp + j) ≡ false)
-    → (r : Option Place) → steps Wide (c .count) (start c) ≡ r → arrives c r ≡ true → Instance c
-arrived c S F k none e h = let z : _≡_ {A = ℕ} 0 1 = cc in absurd (omega arith)
-arrived c S F k (some q) e h =
-    let r : WideRun (c .count) (start c) q = record { none-stops = e; all-allowed = F } in
-    let t = at-each (λ t. t) false (reached c q) h in
-    let f = demand3 (c .count) (start c) q S r in
-    let top : word (q .memory) (c .sp) ≡ c .top = eqb-true _ _ (t 2 (lit< tt)) in
-    record {
-      end = q;
-      run = r;
-      counter = eqb-true _ _ (t 0 (lit< tt));
-      sp = eqb-true _ _ (t 1 (lit< tt));
-      top = top;
-      follows = f;
-      narrow-top = read-alike (q .memory) (f .end .memory) (4 * c .sp) 4 (λ j l. f .alike .same-bytes (4 * c .sp + j) (k j l)) ∙ top;
+arrival : (c : Case) → all (begins c) ≡ true → Arrival c
+arrival c h = by (steps Wide (c .count) (start c)) refl (t 2 (lit< tt))
+  where
+    t : (j : ℕ) → j < 3 → getD (begins c) j false ≡ true
+    t = at-each (λ t. t) false (begins c) h
+
+    paged : WithPage (start c)
+    paged = record {
+      good-length = t 0 (lit< tt);
+      bytes = are-bytes (start c .memory) (t 1 (lit< tt));
+      page-in-place = take-at page (c .program ++ replicate (c .size - pageLength - length (c .program)) 0) pageLength page-length;
     }
 
-is-paged : (c : Case) → goodLength (length (start c .memory)) ≡ true → every isByte (start c .memory) ≡ true → WithPage (start c)
-is-paged c l b = record {
-  good-length = l;
-  bytes = are-bytes (start c .memory) b;
-  page-in-place = take-at page (c .program ++ replicate (c .size - pageLength - length (c .program)) 0) pageLength page-length;
-}
+    by : (r : Option Place) → steps Wide (c .count) (start c) ≡ r → arrives c r ≡ true → Arrival c
+    by none e h = let z : _≡_ {A = ℕ} 0 1 = cc in absurd (omega arith)
+    by (some q) e h =
+        let u = at-each (λ t. t) false (reached c q) h in
+        record {
+          start-paged = paged;
+          end = q;
+          none-stops = e;
+          counter = eqb-true _ _ (u 0 (lit< tt));
+          sp = eqb-true _ _ (u 1 (lit< tt));
+          top = eqb-true _ _ (u 2 (lit< tt));
+        }
+
+-- the narrow core follows there
+pub record Instance (c : Case) : Type 0 where
+  pub wide : Arrival c
+  pub run : WideRun (c .count) (start c) (wide .end)
+  pub follows : Reached (stepBound * c .count) (start c) (wide .end) (dirtAfter (c .count) (start c) clean)
+  pub narrow-top : word (follows .end .memory) (c .sp) ≡ c .top
 
 pub instances : {c : Case} → In c cases → Instance c
 instances {c} i =
     let t = at-each (λ t. t) false (hypotheses c) (at-entry (λ c. all (hypotheses c)) cases all-hold i) in
-    arrived c (is-paged c (t 0 (lit< tt)) (t 1 (lit< tt))) (are-allowed (c .count) (start c) clean (t 2 (lit< tt)))
-    (is-clean (dirtAfter (c .count) (start c) clean) (4 * c .sp) 4 (t 4 (lit< tt)))
-    (steps Wide (c .count) (start c)) refl (t 3 (lit< tt))
+    let w : Arrival c = arrival c (t 0 (lit< tt)) in
+    let r : WideRun (c .count) (start c) (w .end) =
+    record { none-stops = w .none-stops; all-allowed = are-allowed (c .count) (start c) clean (t 1 (lit< tt)) } in
+    let f = demand3 (c .count) (start c) (w .end) (w .start-paged) r in
+    let top-clean = is-clean (dirtAfter (c .count) (start c) clean) (4 * c .sp) 4 (t 2 (lit< tt)) in
+    record {
+      wide = w;
+      run = r;
+      follows = f;
+      narrow-top = read-alike (w .end .memory) (f .end .memory) (4 * c .sp) 4
+          (λ j l. f .alike .same-bytes (4 * c .sp + j) (top-clean j l)) ∙ w .top;
+    }
 
 -- `Emulated` is not empty either: LESSTHAN alone
-abbrev alone-hypotheses : List Bool
-alone-hypotheses =
-    goodLength (length (start alone .memory))
-    ∷ every isByte (start alone .memory)
-    ∷ arrives alone (steps Wide 1 (start alone))
-    ∷ []
-
-alone-holds : all alone-hypotheses ≡ true
+alone-begins : all (begins alone) ≡ true
 unfolding page goodLength steps stepOf effectOf row decode below64 binaryOf getBytes setBytes signed
-alone-holds = refl
+alone-begins = refl
 
-pub less-than-owes : (q : Place) × Reached 23 (start alone) q (dirtOf 5 (start alone) q)
+pub alone-arrives : Arrival alone
+alone-arrives = arrival alone alone-begins
+
+pub less-than-owes : Reached 23 (start alone) (alone-arrives .end) (dirtOf 5 (start alone) (alone-arrives .end))
 unfolding page
-less-than-owes = by (steps Wide 1 (start alone)) refl (t 2 (lit< tt))
-  where
-    t : (j : ℕ) → j < 3 → getD alone-hypotheses j false ≡ true
-    t = at-each (λ t. t) false alone-hypotheses alone-holds
-
-    by : (r : Option Place) → steps Wide 1 (start alone) ≡ r → arrives alone r ≡ true
-        → (q : Place) × Reached 23 (start alone) q (dirtOf 5 (start alone) q)
-    by none e h = let z : _≡_ {A = ℕ} 0 1 = cc in absurd (omega arith)
-    by (some q) e h =
-        let less-than : Short = record { byte = 36; steps = 23; words = 5 } in
-        (q, emulates {o = less-than} (inl refl) (start alone) q (is-paged alone (t 0 (lit< tt)) (t 1 (lit< tt))) refl (omega arith) e)
+less-than-owes =
+    let less-than : Short = record { byte = 36; steps = 23; words = 5 } in
+    emulates {o = less-than} (inl refl) (start alone) (alone-arrives .end) (alone-arrives .start-paged) refl (omega arith)
+    (alone-arrives .none-stops)
 
 -- and the narrow core does take 23 steps
 pub narrow-alone : arrives alone (steps Narrow 23 (start alone)) ≡ true

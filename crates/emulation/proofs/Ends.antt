@@ -12,7 +12,7 @@ use lib.ListN.{length, getD}
 use lib.Dec.{T}
 use Rattle.memory.specs.Memory.{setBytes, word}
 use Rattle.memory.proofs.Tests.{holds, true-is, neither}
-use Rattle.memory.proofs.Memory.{none-written, Outside, Bytes, outside-same, read-written, alike-read, written-bytes}
+use Rattle.memory.proofs.Memory.{none-written, Outside, narrower, past, Bytes, outside-same, read-written, alike-read, written-bytes}
 use Rattle.machine.specs.declared.Core.the-variants.{Narrow, Wide}
 use Rattle.machine.specs.State.{state, jump, Place}
 use Rattle.machine.specs.Effects.{Effect.go, landed}
@@ -23,7 +23,7 @@ use Rattle.frame.proofs.Window.{Window}
 use Rattle.paths.proofs.Paths.{Stand, stand, placed, Arrives}
 use Rattle.emulation.specs.LeftBehind.{writes, leaves}
 use Rattle.emulation.specs.Emulation.{Reached, dirtOf}
-use Rattle.emulation.proofs.Between.{not-between, is-between, past}
+use Rattle.emulation.proofs.Between.{not-between, is-between}
 use Rattle.emulation.proofs.Entry.{Begins, base, end, space}
 
 module _ {b n k : ℕ} {p : Place} (R : Begins b n k p) where
@@ -89,7 +89,7 @@ module _ {b n k : ℕ} {p : Place} (R : Begins b n k p) where
   word-left {q} {pc} {v} j e small lands is = rw (lands, is) (record {
     lands = rw (sp-is j);
     words = λ i l. rw (sp-is j) (at-top i l);
-    around = λ x o. sym (outside-same (p .memory) (4 * (sp + j)) 4 v x (out x o));
+    around = λ x o. sym (outside-same (p .memory) (4 * (sp + j)) 4 v x (narrower o (omega (arith, R .room)) (omega arith)));
     kept = λ x t. inr (omega (arith, R .room, is-between (4 * (sp + j)) (4 * (sp + j) + 4) x (true-is _ (rw is at t)) .0));
   })
     where
@@ -97,10 +97,6 @@ module _ {b n k : ℕ} {p : Place} (R : Begins b n k p) where
       at-top i l =
           let first : i ≡ 0 = omega arith in
           rw (first, add-zero (sp + j)) (read-written (p .memory) (4 * (sp + j)) 4 v (omega (arith, R .there)) small)
-
-      out : (x : ℕ) → Outside (4 * base R) (4 * end R) x → Outside (4 * (sp + j)) (4 * (sp + j) + 4) x
-      out x (inl l) = inl (omega (arith, R .room))
-      out x (inr l) = inr (omega arith)
 
   -- every operand is popped off, and nothing is written
   pub nothing-left : {q : Place} {pc : ℕ} (j : ℕ) → q ≡ landed (stepOf Wide p) p → stepOf Wide p ≡ go (jump (p .state) pc (sp + j)) 0 0 0

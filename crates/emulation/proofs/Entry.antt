@@ -55,11 +55,8 @@ module _ {b n k : ℕ} {p : Place} (R : Begins b n k p) where
   pub above : firstStackWord ≤ base
   above = omega (arith, R .room)
 
-  pub in-reach : 4 * end ≤ 65536
-  in-reach = omega (arith, good (length m) (R .start .good-length), R .there)
-
   abbrev pub space : Space
-  space = record { base = base; end = end; above = above; not-over = in-reach }
+  space = record { base = base; end = end; above = above }
 
   abbrev pub entry : Stand
   entry = stand (vector b) k false (return ∷ operandWords) m
@@ -74,8 +71,8 @@ module _ {b n k : ℕ} {p : Place} (R : Begins b n k p) where
 
   before : Window base end (suc k) m m operandWords
   before = record {
-    same-length = refl;
-    room = omega (arith, R .there);
+    inside = omega (arith, R .there);
+    in-reach = omega (arith, good (length m) (R .start .good-length), R .there);
     fits = rw length-operands (omega (arith, R .room));
     outside = λ x o. refl;
     holds = λ j h.

@@ -13,16 +13,14 @@ use Rattle.memory.proofs.Memory.{read-lt}
 use Rattle.arithmetic.specs.Words.{oneIf}
 use Rattle.machine.specs.declared.Core.the-variants.{Narrow, Wide}
 use Rattle.machine.specs.declared.State.{State}
-use Rattle.machine.specs.State.{jump, Place, fetched}
-use Rattle.machine.specs.Effects.{Effect}
+use Rattle.machine.specs.State.{Place, fetched}
 use Rattle.machine.specs.Instructions.{Instr.EMULATE, decode}
-use Rattle.machine.specs.Table.{Act.goes, Act.puts, A, B, doing, stepOf}
+use Rattle.machine.specs.Table.{A, B, doing, stepOf}
 use Rattle.machine.specs.Run.{steps}
 use Rattle.frame.proofs.Window.{small}
 use Rattle.routines.specs.Constants.{firstStackWord}
 use Rattle.routines.proofs.Entries.{law-at, same-at}
-use Rattle.routines.proofs.InPage.{code}
-use Rattle.routines.proofs.Straight.{Straight, rows, at-vector, taken-for-emulate, operands, oneOrTwo, one-or-two, rowOf, meanings}
+use Rattle.routines.proofs.Straight.{Straight, rows, codeOf, at-vector, taken-for-emulate, operands, oneOrTwo, one-or-two, actOf, meanings}
 use Rattle.routines.proofs.Runs.{runs-to-end}
 use Rattle.paths.proofs.Paths.{Stand, stand, Arrives, _then_}
 use Rattle.paths.proofs.Joints.{jumps}
@@ -57,7 +55,7 @@ module _ {o : Straight} (member : In o rows) where
     abbrev value : ℕ
     value = o .value c sp (A m s) (B m s)
 
-    wide : WideStep (operands o) (rowOf m s o .act) p q
+    wide : WideStep (operands o) (actOf m s o (o .hasValue)) p q
     wide = wide-step here (law-at (meanings m s) member) one
 
     begins : Begins (o .byte) (operands o) (o .depth) p
@@ -71,31 +69,26 @@ module _ {o : Straight} (member : In o rows) where
       there = wide .there (some-operand .0);
     }
 
-    -- what the wide core does and where the narrow core arrives, where t says whether a word is left
-    abbrev effect : Bool → Effect
-    effect t =
-        let new : State = jump s target (sp + o .popped) in
-        doing m s (cond t (puts new (sp + o .popped) value) (goes new))
-
+    -- where the narrow core arrives, where t says whether a word is left
     abbrev after : Bool → Stand
     after t = stand target (suc (o .depth) + o .popped) false (cond t (value ∷ []) []) m
 
     abbrev Arrived : Bool → Type 0
-    Arrived t = Arrives (space begins) (1 + length (code (o .lines))) p (after t)
+    Arrived t = Arrives (space begins) (1 + length (codeOf o)) p (after t)
 
     arrived : Arrived (o .hasValue)
     arrived =
         let at-sp : base begins + suc (o .depth) ≡ sp = omega arith in
         let hA : A m s < 2 ^ 32 = read-lt m (4 * sp) 4 (start .bytes) in
         let hB : B m s < 2 ^ 32 = read-lt m (4 * (sp + 1)) 4 (start .bytes) in
-        enters begins then jumps (code (o .lines)) (at-vector member) (rw at-sp at (runs-to-end (base begins) c refl hA hB member))
+        enters begins then jumps (codeOf o) (at-vector member) (rw at-sp at (runs-to-end (base begins) c refl hA hB member))
 
-    settled : (t : Bool) → o .hasValue ≡ t → stepOf Wide p ≡ effect t → Arrived t → Settled begins q (after t)
+    settled : (t : Bool) → o .hasValue ≡ t → stepOf Wide p ≡ doing m s (actOf m s o t) → Arrived t → Settled begins q (after t)
     settled true e is a =
         let n : operands o ≡ o .popped + 1 = ap (λ (t : Bool). o .popped + oneIf t) e in
         let inside = lt-ltb (sp + o .popped) (length m / 4) (omega (arith, begins .there)) in
         word-left begins (o .popped) n (small (a .holds .window) 0 (omega arith)) (wide .lands) (rw inside at is)
     settled false e is a = nothing-left begins (o .popped) (wide .lands) is
 
-    pub straight : Reached (1 + length (code (o .lines))) p q (dirtOf (suc (o .depth)) p q)
+    pub straight : Reached (1 + length (codeOf o)) p q (dirtOf (suc (o .depth)) p q)
     straight = matched begins arrived (settled (o .hasValue) refl (wide .is) arrived) one

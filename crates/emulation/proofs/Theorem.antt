@@ -1,19 +1,17 @@
--- Each short instruction is emulated; and what that says of its words and steps.
-use Prim.Native.Nat.{ℕ, _-_, _*_, _≤_}
+-- Each short instruction is emulated.
+use Prim.Native.Nat.{ℕ, _-_, _*_}
 use mathlib.Core.Path.{_≡_, refl, subst}
 use mathlib.Core.Bool.{not, _&&_, _||_}
 use mathlib.Core.List.{List}
-use mathlib.Core.Option.{some}
 use Rattle.memory.proofs.Tests.{In}
-use Rattle.machine.specs.declared.Core.the-variants.{Narrow, Wide}
+use Rattle.machine.specs.declared.Core.the-variants.{Wide}
 use Rattle.machine.specs.State.{Place}
 use Rattle.machine.specs.Table.{stepOf}
-use Rattle.machine.specs.Run.{steps}
 use Rattle.routines.specs.Shorts.{Short, shorts}
 use Rattle.routines.proofs.Entries.{Each, law-at, each-of}
 use Rattle.routines.proofs.Straight.{rows, cost, costs}
-use Rattle.emulation.specs.LeftBehind.{Dirt, between, writes, leaves}
-use Rattle.emulation.specs.Emulation.{Reached, dirtOf, Emulated}
+use Rattle.emulation.specs.LeftBehind.{between, writes, leaves}
+use Rattle.emulation.specs.Emulation.{dirtOf, Emulated}
 use Rattle.emulation.proofs.Straight.{straight}
 
 each : Each Emulated shorts
@@ -29,7 +27,3 @@ pub own-words : (w : ℕ) (p q : Place) (x : ℕ)
     dirtOf w p q x ≡ not (writes (stepOf Wide p) x) && (between (4 * (old - w)) (4 * old) x || between (4 * old) (4 * new) x)
 unfolding leaves
 own-words w p q x = refl
-
--- the bound is one on steps of the narrow core
-pub own-steps : {n : ℕ} {p q : Place} {d : Dirt} (r : Reached n p q d) → (r .count ≤ n) × (steps Narrow (r .count) p ≡ some (r .end))
-own-steps r = (r .within-bound, r .reached)

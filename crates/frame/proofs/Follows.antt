@@ -1,5 +1,5 @@
 -- The narrow core follows the frame machine, an instruction at a time.
-use Prim.Native.Nat.{ℕ, zero, suc, _+_, _-_, _*_, _/_, _^_, _≤_, _<_}
+use Prim.Native.Nat.{ℕ, zero, suc, _+_, _-_, _*_, _/_, _^_, _<_}
 use mathlib.Core.Path.{_≡_, refl}
 use mathlib.Core.Bool.{Bool, true, false, cond}
 use mathlib.Core.List.{List, [], _∷_}
@@ -21,22 +21,21 @@ use Rattle.machine.specs.Instructions.{Instr, Instr.IM, Instr.STORESP, Instr.LO
 use Rattle.machine.specs.Table.{Act.pushes, extended, row, doing, effectOf}
 use Rattle.machine.specs.Run.{onward}
 use Rattle.machine.proofs.Stack.{has-room}
-use Rattle.frame.proofs.Frame.{Frame, Frame.running, Frame.left, Frame.stuck, check, pushed, popping, reaching, put, address, instruction}
+use Rattle.frame.proofs.Frame.{Frame, Frame.running, Frame.jumped, Frame.stuck, check, pushed, popping, reaching, put, address, instruction}
 use Rattle.frame.proofs.Window.{Window, top, small, shrunk, grown, aside, changed}
 
-abbrev pub at : ℕ → ℕ → Bool → List ℕ → Place
-at pc sp f m = place m (state pc sp f)
+abbrev pub placeAt : ℕ → ℕ → Bool → List ℕ → Place
+placeAt pc sp f m = place m (state pc sp f)
 
--- a window that a word can address
-module _ (base end : ℕ) (not-over : 4 * end ≤ 65536) (u : List ℕ) where
+module _ (base end : ℕ) (u : List ℕ) where
   -- r is a place at counter pc with q words free, flag g and vs from sp up
   abbrev pub Comes : ℕ → ℕ → Bool → List ℕ → Option Place → Type 0
-  Comes pc q g vs r = (m : List ℕ) × (r ≡ some (at pc (base + q) g m)) × Window base end q u m vs
+  Comes pc q g vs r = (m : List ℕ) × (r ≡ some (placeAt pc (base + q) g m)) × Window base end q u m vs
 
   -- the effect e at x, whose counter is c, leads where the frame machine says
   abbrev pub Follows : ℕ → Frame → Effect → Place → Type 0
   Follows c (running q g vs) e x = Comes (wrap (c + 1)) q g vs (onward e x some)
-  Follows c (left w q vs) e x = Comes w q false vs (onward e x some)
+  Follows c (jumped w q vs) e x = Comes w q false vs (onward e x some)
   Follows c stuck e x = Unit {0}
 
   module _ (c : ℕ) (f : Bool) (m : List ℕ) where
@@ -70,7 +69,7 @@ module _ (base end : ℕ) (not-over : 4 * end ≤ 65536) (u : List ℕ) where
 
     -- word n from sp up is in memory
     there : {p : ℕ} {ws : List ℕ} → Holds p ws → (n : ℕ) → n < length ws → ltb (base + p + n) (length m / 4) ≡ true
-    there {p} W n h = lt-ltb (base + p + n) (length m / 4) (omega (arith, W .room, W .fits, W .same-length))
+    there {p} W n h = lt-ltb (base + p + n) (length m / 4) (omega (arith, W .inside, W .fits))
 
     top-there : {p x : ℕ} {xs : List ℕ} → Holds p (x ∷ xs) → ltb (base + p) (length m / 4) ≡ true
     top-there {p} W = rw (add-zero (base + p)) at (there W 0 (omega arith))
@@ -88,7 +87,7 @@ module _ (base end : ℕ) (not-over : 4 * end ≤ 65536) (u : List ℕ) where
     grows zero v g e W h i = tt
     grows (suc p) v g e W h i =
         let under : base + suc p - 1 ≡ base + p = omega arith in
-        puts (suc p) e W h (rw (i, has-room m (s (suc p)) _ v (omega arith) (omega (arith, W .room, W .fits, W .same-length)), under))
+        puts (suc p) e W h (rw (i, has-room m (s (suc p)) _ v (omega arith) (omega (arith, W .inside, W .fits)), under))
 
     extended-lt : (v : ℕ) (t : Bool) → v < 128 → cond t v (2 ^ 32 - 128 + v) < 2 ^ 32
     extended-lt v true h = omega arith
@@ -120,7 +119,7 @@ module _ (base end : ℕ) (not-over : 4 * end ≤ 65536) (u : List ℕ) where
         grows p (getD ws n 0) false (effect p (LOADSP n)) W (small W n h) (rw (there W n h, W .holds n h))
     follows (ADDSP n) p ws W = popped p ws _ _ W λ x xs W. reached p n (x ∷ xs) _ _ λ h.
         puts p (effect p (ADDSP n)) (shrunk W) (omega arith) (rw (top-there W, there W n h, top W, W .holds n h))
-    follows PUSHSP p ws W = grows p (4 * (base + p)) false (effect p PUSHSP) W (omega (arith, W .fits)) refl
+    follows PUSHSP p ws W = grows p (4 * (base + p)) false (effect p PUSHSP) W (omega (arith, W .in-reach, W .fits)) refl
     follows POPPC p ws W = popped p ws _ _ W λ x xs W. (m, rw (top-there W, none-written m 0 0, top W, above p), shrunk W)
     follows NOP p ws W = (m, rw (none-written m 0 0), W)
     follows (unary op) p ws W = popped p ws _ _ W λ x xs W.

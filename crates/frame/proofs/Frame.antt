@@ -11,10 +11,11 @@ use Rattle.arithmetic.specs.declared.BinOp.the-variants.{Add}
 use Rattle.machine.specs.Instructions.{Instr, Instr.IM, Instr.STORESP, Instr.LOADSP, Instr.EMULATE, Instr.ADDSP, Instr.PUSHSP, Instr.POPSP, Instr.POPPC, Instr.NOP, Instr.BREAK, Instr.ILLEGAL, Instr.PUSHSPADD, Instr.CALL, Instr.CALLPCREL, Instr.POPPCREL, Instr.PUSHPC, Instr.NEQBRANCH, Instr.EQBRANCH, Instr.unary, Instr.binary, Instr.division, Instr.load, Instr.store}
 use Rattle.machine.specs.Table.{extended}
 
--- the words free below sp, the flag and the words from sp up; or POPPC has left for an address; or what the machine does not know
+-- the words free below sp, the flag and the words from sp up; or POPPC has gone to an address, with these words free and from sp up;
+-- or what the machine does not know
 pub data Frame : Type 0 where
   running : ℕ → Bool → List ℕ → Frame
-  left : ℕ → ℕ → List ℕ → Frame
+  jumped : ℕ → ℕ → List ℕ → Frame
   stuck : Frame
 
 abbrev pub check : Bool → Frame → Frame
@@ -42,7 +43,7 @@ put (suc n) x xs = set xs n x
 
 abbrev pub andThen : Frame → (ℕ → Bool → List ℕ → Frame) → Frame
 andThen (running p f ws) k = k p f ws
-andThen (left w p ws) k = left w p ws
+andThen (jumped w p ws) k = jumped w p ws
 andThen stuck k = stuck
 
 -- the byte address of the word that has p words free below it, the first of which is word base
@@ -57,7 +58,7 @@ module _ (base : ℕ) where
   instruction (LOADSP n) p f ws = reaching n ws (pushed p false ws)
   instruction (ADDSP n) p f ws = popping ws (λ x xs. reaching n (x ∷ xs) (λ y. running p false (binaryOf Add x y ∷ xs)))
   instruction PUSHSP p f ws = pushed p false ws (address base p)
-  instruction POPPC p f ws = popping ws (λ x xs. left x (suc p) xs)
+  instruction POPPC p f ws = popping ws (λ x xs. jumped x (suc p) xs)
   instruction NOP p f ws = running p false ws
   instruction (unary op) p f ws = popping ws (λ x xs. running p false (unaryOf op x ∷ xs))
   instruction (binary op) p f ws = popping ws (λ x xs. popping xs (λ y ys. running (suc p) false (binaryOf op x y ∷ ys)))

@@ -17,49 +17,50 @@ use Rattle.machine.specs.Instructions.{Instr, Instr.BREAK, decode}
 use Rattle.machine.specs.Table.{effectOf, stepOf}
 use Rattle.machine.specs.Run.{steps}
 use Rattle.laws.proofs.Steps.{steps-add, no-step}
-use Rattle.frame.proofs.Frame.{Frame, Frame.running, Frame.left, Frame.stuck, andThen, instruction, through}
+use Rattle.frame.proofs.Frame.{Frame, Frame.running, Frame.jumped, Frame.stuck, andThen, instruction, through}
 use Rattle.frame.proofs.Window.{Window}
-use Rattle.frame.proofs.Follows.{at, Comes, Follows, follows}
+use Rattle.frame.proofs.Follows.{placeAt, Comes, Follows, follows}
 
 -- memory u has this code from address c on
 abbrev pub Code : List ℕ → ℕ → List Instr → Type 0
 Code u c is = (j : ℕ) → j < length is → decode Narrow (getD u (c + j) 0) ≡ getD is j BREAK
 
-module _ (base end : ℕ) (not-over : 4 * end ≤ 65536) (u : List ℕ) where
+module _ (base end : ℕ) (u : List ℕ) where
   -- from x the narrow core comes to where the frame machine says of the k instructions from address c on
-  abbrev pub Runs : ℕ → ℕ → Frame → Place → Type 0
-  Runs c k (running q g vs) x = Comes base end not-over u (c + k) q g vs (steps Narrow k x)
-  Runs c k (left w q vs) x = (n : ℕ) × (n ≤ k) × Comes base end not-over u w q false vs (steps Narrow n x)
-  Runs c k stuck x = Unit {0}
+  abbrev pub ComesThrough : ℕ → ℕ → Frame → Place → Type 0
+  ComesThrough c k (running q g vs) x = Comes base end u (c + k) q g vs (steps Narrow k x)
+  ComesThrough c k (jumped w q vs) x = (n : ℕ) × (n ≤ k) × Comes base end u w q false vs (steps Narrow n x)
+  ComesThrough c k stuck x = Unit {0}
 
-  earlier : (c k : ℕ) (y : Frame) (x z : Place) → steps Narrow 1 x ≡ some z → Runs (c + 1) k y z → Runs c (suc k) y x
+  earlier : (c k : ℕ) (y : Frame) (x z : Place) → steps Narrow 1 x ≡ some z → ComesThrough (c + 1) k y z → ComesThrough c (suc k) y x
   earlier c k (running q g vs) x z e r = rw (← one-add k, steps-add Narrow 1 k x z e) (rw (add-assoc c 1 k) at r)
-  earlier c k (left w q vs) x z e (n, l, r) = (1 + n, omega arith, rw (steps-add Narrow 1 n x z e) r)
+  earlier c k (jumped w q vs) x z e (n, l, r) = (1 + n, omega arith, rw (steps-add Narrow 1 n x z e) r)
   earlier c k stuck x z e r = tt
 
   joined : (c k : ℕ) (y : Frame) (rest : ℕ → Bool → List ℕ → Frame) (x : Place)
-      → Follows base end not-over u c y (stepOf Narrow x) x → wrap (c + 1) ≡ c + 1
-      → ((q : ℕ) (g : Bool) (vs m : List ℕ) → Window base end q u m vs → Runs (c + 1) k (rest q g vs) (at (c + 1) (base + q) g m))
-      → Runs c (suc k) (andThen y rest) x
+      → Follows base end u c y (stepOf Narrow x) x → wrap (c + 1) ≡ c + 1
+      → ((q : ℕ) (g : Bool) (vs m : List ℕ) → Window base end q u m vs
+      → ComesThrough (c + 1) k (rest q g vs) (placeAt (c + 1) (base + q) g m))
+      → ComesThrough c (suc k) (andThen y rest) x
   unfolding steps
   joined c k (running q g vs) rest x (m, e, W) n more =
-      earlier c k (rest q g vs) x (at (c + 1) (base + q) g m) (rw n at e) (more q g vs m W)
-  joined c k (left w q vs) rest x r n more = (1, omega arith, r)
+      earlier c k (rest q g vs) x (placeAt (c + 1) (base + q) g m) (rw n at e) (more q g vs m W)
+  joined c k (jumped w q vs) rest x r n more = (1, omega arith, r)
   joined c k stuck rest x r n more = tt
 
   does : (c p : ℕ) (f : Bool) (m ws : List ℕ) (i : Instr) → Window base end p u m ws → c < 4 * base → decode Narrow (getD u c 0) ≡ i
-      → stepOf Narrow (at c (base + p) f m) ≡ effectOf m (state c (base + p) f) i
+      → stepOf Narrow (placeAt c (base + p) f m) ≡ effectOf m (state c (base + p) f) i
   unfolding stepOf
   does c p f m ws i W h e =
-      rw (lt-ltb c (length m) (omega (arith, W .room, W .fits, W .same-length)), W .outside c (inl h), e)
+      rw (lt-ltb c (length m) (omega (arith, W .inside, W .fits)), W .outside c (inl h), e)
 
   pub code-runs : (is : List Instr) (c p : ℕ) (f : Bool) (m ws : List ℕ) → Code u c is → c + length is ≤ 4 * base
-      → Window base end p u m ws → Runs c (length is) (through base is p f ws) (at c (base + p) f m)
+      → Window base end p u m ws → ComesThrough c (length is) (through base is p f ws) (placeAt c (base + p) f m)
   unfolding through
   code-runs [] c p f m ws C h W = (m, rw (add-zero c) (no-step Narrow _), W)
   code-runs (i ∷ is) c p f m ws C h W =
-      joined c (length is) (instruction base i p f ws) (through base is) (at c (base + p) f m)
-      (rw (does c p f m ws i W (omega arith) (rw (add-zero c) at (C 0 (omega arith)))) (follows base end not-over u c f m i p ws W))
-      (omega (arith, W .fits))
+      joined c (length is) (instruction base i p f ws) (through base is) (placeAt c (base + p) f m)
+      (rw (does c p f m ws i W (omega arith) (rw (add-zero c) at (C 0 (omega arith)))) (follows base end u c f m i p ws W))
+      (omega (arith, W .in-reach, W .fits))
       (λ q g vs m₁ W₁.
       code-runs is (c + 1) q g m₁ vs (λ j k. rw (add-assoc c 1 j, one-add j) (C (suc j) (omega arith))) (omega arith) W₁)

@@ -9,12 +9,12 @@ use native.Mathlib.Decide.{decLt, ℕ-discrete}
 use lib.ListN.{length, getD, set, length-set}
 use lib.Seq.{getD-set-same, getD-set-other}
 use Rattle.memory.specs.Memory.{setBytes, word}
-use Rattle.memory.proofs.Memory.{length-setBytes, Outside, Bytes, outside-same, read-written, read-outside, written-bytes, read-lt}
+use Rattle.memory.proofs.Memory.{length-setBytes, Outside, narrower, Bytes, outside-same, read-written, read-outside, written-bytes, read-lt}
 
 -- memory m is u but for the words from base up to end; free of them are below sp, and the others, from sp up, are ws
 pub record Window (base end free : ℕ) (u m ws : List ℕ) : Type 0 where
-  pub same-length : length m ≡ length u
-  pub room : 4 * end ≤ length u
+  pub inside : 4 * end ≤ length m
+  pub in-reach : 4 * end ≤ 65536
   pub fits : base + free + length ws ≡ end
   pub outside : (x : ℕ) → Outside (4 * base) (4 * end) x → getD m x 0 ≡ getD u x 0
   pub holds : (j : ℕ) → j < length ws → word m (base + free + j) ≡ getD ws j 0
@@ -38,8 +38,8 @@ module _ {base end : ℕ} {u : List ℕ} where
   -- the top is popped off
   pub shrunk : {p x : ℕ} {m xs : List ℕ} → Window base end p u m (x ∷ xs) → Window base end (suc p) u m xs
   shrunk {m = m} W = record {
-    same-length = W .same-length;
-    room = W .room;
+    inside = W .inside;
+    in-reach = W .in-reach;
     fits = omega (arith, W .fits);
     outside = W .outside;
     holds = λ j h. ap (word m) (omega arith) ∙ W .holds (suc j) (omega arith);
@@ -51,17 +51,13 @@ module _ {base end : ℕ} {u : List ℕ} where
       → ((j : ℕ) → j < length vs → word (setBytes m (4 * w) 4 v) (base + q + j) ≡ getD vs j 0)
       → Window base end q u (setBytes m (4 * w) 4 v) vs
   written {m = m} w v W low high fit hold = record {
-    same-length = length-setBytes m (4 * w) 4 v ∙ W .same-length;
-    room = W .room;
+    inside = rw (length-setBytes m (4 * w) 4 v) (W .inside);
+    in-reach = W .in-reach;
     fits = fit;
-    outside = λ x o. outside-same m (4 * w) 4 v x (out x o) ∙ W .outside x o;
+    outside = λ x o. outside-same m (4 * w) 4 v x (narrower o (omega arith) (omega arith)) ∙ W .outside x o;
     holds = hold;
     bytes = written-bytes m (4 * w) 4 v (W .bytes);
   }
-    where
-      out : (x : ℕ) → Outside (4 * base) (4 * end) x → Outside (4 * w) (4 * w + 4) x
-      out x (inl l) = inl (omega arith)
-      out x (inr l) = inr (omega arith)
 
   -- v is pushed
   pub grown : {p : ℕ} {m ws : List ℕ} (v : ℕ) → v < 2 ^ 32 → Window base end (suc p) u m ws
@@ -70,7 +66,7 @@ module _ {base end : ℕ} {u : List ℕ} where
     where
       hold : (j : ℕ) → j < length (v ∷ ws) → word (setBytes m (4 * (base + p)) 4 v) (base + p + j) ≡ getD (v ∷ ws) j 0
       hold zero l =
-          rw (add-zero (base + p)) (read-written m (4 * (base + p)) 4 v (omega (arith, W .room, W .fits, W .same-length)) h)
+          rw (add-zero (base + p)) (read-written m (4 * (base + p)) 4 v (omega (arith, W .inside, W .fits)) h)
       hold (suc j) l =
           let next : base + p + suc j ≡ base + suc p + j = omega arith in
           rw next (other-word m (base + p) v (base + suc p + j) (omega arith) ∙ W .holds j (omega arith))
@@ -91,7 +87,7 @@ module _ {base end : ℕ} {u : List ℕ} where
     where
       hold : (j : ℕ) → j < length ws → Dec (j ≡ n) → word (setBytes m (4 * (base + p + n)) 4 v) (base + p + j) ≡ getD (set ws n v) j 0
       hold j l (yes e) =
-          rw e (read-written m (4 * (base + p + n)) 4 v (omega (arith, W .room, W .fits, W .same-length)) k
+          rw e (read-written m (4 * (base + p + n)) 4 v (omega (arith, W .inside, W .fits)) k
           ∙ sym (getD-set-same ws n v 0 h))
       hold j l (no e) =
           other-word m (base + p + n) v (base + p + j) (omega arith) ∙ W .holds j l ∙ sym (getD-set-other ws n j v 0 e)

@@ -25,6 +25,16 @@ none-written m a v = refl
 abbrev pub Outside : ℕ → ℕ → ℕ → Type 0
 Outside a e x = (x < a) ⊎ (e ≤ x)
 
+pub narrower : {a e x u v : ℕ} → Outside a e x → a ≤ u → v ≤ e → Outside u v x
+narrower (inl l) h j = inl (omega arith)
+narrower (inr l) h j = inr (omega arith)
+
+-- two spans, of which the second begins before the first ends
+pub past : {a b c e x u v : ℕ} → Outside a b x → Outside c e x → a ≤ u → c ≤ b → v ≤ e → Outside u v x
+past (inl l) k h i j = inl (omega arith)
+past (inr l) (inl k) h i j = absurd (omega arith)
+past (inr l) (inr k) h i j = inr (omega arith)
+
 abbrev pub Bytes : List ℕ → Type 0
 Bytes m = (i : ℕ) → getD m i 0 < 256
 

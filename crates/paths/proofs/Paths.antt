@@ -1,5 +1,5 @@
 -- Paths of the narrow core through the page: from one stand to another in at most n steps, joined one after another.
-use Prim.Native.Nat.{ℕ, _+_, _*_, _≤_, _<_}
+use Prim.Native.Nat.{ℕ, _+_, _≤_, _<_}
 use mathlib.Core.Path.{_≡_, _∙_}
 use mathlib.Core.Bool.{Bool}
 use mathlib.Core.List.{List}
@@ -11,7 +11,7 @@ use Rattle.machine.specs.State.{Place}
 use Rattle.machine.specs.Run.{steps}
 use Rattle.laws.proofs.Steps.{steps-add}
 use Rattle.frame.proofs.Window.{Window}
-use Rattle.frame.proofs.Follows.{at}
+use Rattle.frame.proofs.Follows.{placeAt}
 use Rattle.routines.specs.Constants.{pageLength, firstStackWord}
 use Rattle.routines.specs.Page.{page}
 
@@ -24,7 +24,6 @@ pub record Space : Type 0 where
   pub base : ℕ
   pub end : ℕ
   pub above : firstStackWord ≤ base
-  pub not-over : 4 * end ≤ 65536
 
 -- the counter, the words free below sp, the flag, the words from sp up, and the memory around the window
 pub record Stand : Type 0 where
@@ -44,7 +43,7 @@ module _ (S : Space) where
     pub paged : Paged (x .around)
 
   abbrev pub placed : Stand → List ℕ → Place
-  placed x m = at (x .counter) (S .base + x .free) (x .flag) m
+  placed x m = placeAt (x .counter) (S .base + x .free) (x .flag) m
 
   -- from p the narrow core gets to where y says in at most n steps
   pub record Arrives (n : ℕ) (p : Place) (y : Stand) : Type 0 where

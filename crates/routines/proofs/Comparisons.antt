@@ -1,4 +1,4 @@
--- The four comparisons: the top bit of (P & Q) | ((P | Q) & s).
+-- The four comparisons of order, 36 to 39: the top bit of (P & Q) | ((P | Q) & s).
 use Prim.Native.Nat.{ℕ, _+_, _-_, _*_, _/_, _^_, _≤_, _<_, min, max}
 use mathlib.Core.Path.{_≡_, refl, ap, ap₂, _∙_}
 use mathlib.Core.Bool.{not}
@@ -15,45 +15,46 @@ use Rattle.arithmetic.specs.declared.UnOp.the-variants.{Not}
 use Rattle.arithmetic.specs.declared.BinOp.the-variants.{Add, And, Or, LessThan, LessThanOrEqual, ULessThan, ULessThanOrEqual}
 use Rattle.arithmetic.proofs.Signed.{sign, order, not-less}
 use Rattle.arithmetic.proofs.Bounds.{unary-lt, binary-lt}
-use Rattle.routines.proofs.Words.{top, top-and, top-or, topBit, top-bit, wrap-right}
+use Rattle.routines.proofs.Words.{topBit, top-and, top-or, broughtDown, brought-down, wrap-right}
 
 -- two bits of three
 majority : {x y z : ℕ} → x < 2 → y < 2 → z < 2 → max (min z (max x y)) (min x y) ≡ (x + y + z) / 2
 majority h k l = omega arith
 
 -- the sum of two words and a carry, of which a word keeps w: two of the bits top n, top e and 1 - top w say whether it goes over
-over : (n e c w z : ℕ) → n < 2 ^ 32 → e < 2 ^ 32 → c < 2 → w < 2 ^ 32 → w + 2 ^ 32 ≡ n + e + c → z + top w ≡ 1
-    → (top e + top n + z) / 2 ≡ 1
-over n e c w z hn he hc hw h hz = bits (top n) (top e) (top w) (omega arith) (omega arith) (omega arith) hz
+over : (n e c w z : ℕ) → n < 2 ^ 32 → e < 2 ^ 32 → c < 2 → w < 2 ^ 32 → w + 2 ^ 32 ≡ n + e + c → z + topBit w ≡ 1
+    → (topBit e + topBit n + z) / 2 ≡ 1
+over n e c w z hn he hc hw h hz = bits (topBit n) (topBit e) (topBit w) (omega arith) (omega arith) (omega arith) hz
   where
     bits : (x y t : ℕ) → x < 2 → y < 2 → 1 + t ≤ x + y → z + t ≡ 1 → (y + x + z) / 2 ≡ 1
     bits x y t hx hy k l = omega arith
 
-under : (n e c w z : ℕ) → w < 2 ^ 32 → w ≡ n + e + c → z + top w ≡ 1 → (top e + top n + z) / 2 ≡ 0
-under n e c w z hw h hz = bits (top n) (top e) (top w) (omega arith) hz
+under : (n e c w z : ℕ) → w < 2 ^ 32 → w ≡ n + e + c → z + topBit w ≡ 1 → (topBit e + topBit n + z) / 2 ≡ 0
+under n e c w z hw h hz = bits (topBit n) (topBit e) (topBit w) (omega arith) hz
   where
     bits : (x y t : ℕ) → x + y ≤ t → z + t ≡ 1 → (y + x + z) / 2 ≡ 0
     bits x y t k l = omega arith
 
--- what the four comparisons share: from P, Q and s to the test d < e + c, where d and e are words, n is ~d and c is a carry
+-- what the four share, the operands in the order in which the stack has them
 abbrev compared : ℕ → ℕ → ℕ → ℕ
-compared p q s = topBit (binaryOf Or (binaryOf And s (binaryOf Or q p)) (binaryOf And q p))
+compared p q s = broughtDown (binaryOf Or (binaryOf And s (binaryOf Or q p)) (binaryOf And q p))
 
-compared-top : {p q s : ℕ} → p < 2 ^ 32 → q < 2 ^ 32 → s < 2 ^ 32 → compared p q s ≡ (top q + top p + top s) / 2
+compared-top : {p q s : ℕ} → p < 2 ^ 32 → q < 2 ^ 32 → s < 2 ^ 32 → compared p q s ≡ (topBit q + topBit p + topBit s) / 2
 compared-top hp hq hs =
-    top-bit (binary-lt Or (binary-lt And hs (binary-lt Or hq hp)) (binary-lt And hq hp))
+    brought-down (binary-lt Or (binary-lt And hs (binary-lt Or hq hp)) (binary-lt And hq hp))
     ∙ top-or (binary-lt And hs (binary-lt Or hq hp)) (binary-lt And hq hp)
     ∙ ap₂ max (top-and hs (binary-lt Or hq hp) ∙ ap₂ min refl (top-or hq hp)) (top-and hq hp)
     ∙ majority (omega arith) (omega arith) (omega arith)
 
+-- it is the test d < e + c, where d and e are words, n is ~d and c is a carry
 comparison : {p q s : ℕ} → p < 2 ^ 32 → q < 2 ^ 32 → s < 2 ^ 32 → (d e n c : ℕ) → e < 2 ^ 32 → n + d ≡ 2 ^ 32 - 1 → c < 2
-    → top p ≡ top n → top q ≡ top e → top s + top (wrap (n + e + c)) ≡ 1 → compared p q s ≡ oneIf (ltb d (e + c))
+    → topBit p ≡ topBit n → topBit q ≡ topBit e → topBit s + topBit (wrap (n + e + c)) ≡ 1 → compared p q s ≡ oneIf (ltb d (e + c))
 comparison {s = s} hp hq hs d e n c he hn hc tp tq ts =
     compared-top hp hq hs ∙ rw (tp, tq) (test (decLt d (e + c)))
   where
-    test : Dec (d < e + c) → (top e + top n + top s) / 2 ≡ oneIf (ltb d (e + c))
-    test (yes l) = rw (lt-ltb d (e + c) l) (over n e c (wrap (n + e + c)) (top s) (omega arith) he hc (omega arith) (omega arith) ts)
-    test (no l) = rw (le-ltb d (e + c) (omega arith)) (under n e c (wrap (n + e + c)) (top s) (omega arith) (omega arith) ts)
+    test : Dec (d < e + c) → (topBit e + topBit n + topBit s) / 2 ≡ oneIf (ltb d (e + c))
+    test (yes l) = rw (lt-ltb d (e + c) l) (over n e c (wrap (n + e + c)) (topBit s) (omega arith) he hc (omega arith) (omega arith) ts)
+    test (no l) = rw (le-ltb d (e + c) (omega arith)) (under n e c (wrap (n + e + c)) (topBit s) (omega arith) (omega arith) ts)
 
 -- signed words compare as their distances from the least, which differ from them in the top bit
 abbrev raised : ℕ → ℕ
@@ -74,10 +75,10 @@ less-or-same d e =
 complement : (x y q : ℕ) → x + y ≡ 2 ^ 32 * q + (2 ^ 32 - 1) → wrap x + wrap y ≡ 2 ^ 32 - 1
 complement x y q h = omega arith
 
-top-complement : (x y : ℕ) → x + y ≡ 2 ^ 32 - 1 → top x + top y ≡ 1
+top-complement : (x y : ℕ) → x + y ≡ 2 ^ 32 - 1 → topBit x + topBit y ≡ 1
 top-complement x y h = omega arith
 
-raised-is : (a : ℕ) → a < 2 ^ 32 → raised a + 2 ^ 32 * top a ≡ a + 2 ^ 31
+raised-is : (a : ℕ) → a < 2 ^ 32 → raised a + 2 ^ 32 * topBit a ≡ a + 2 ^ 31
 raised-is a h = omega arith
 
 -- k + ~b + a and ~d + e + c, where d and e are a and b raised and k is 1 - c
@@ -95,8 +96,8 @@ module _ {a b : ℕ} (h : a < 2 ^ 32) (k : b < 2 ^ 32) where
       comparison h (unary-lt Not b) (omega arith) (raised a) (raised b) (2 ^ 32 - 1 - raised a) c (omega arith) (omega arith) (omega arith)
       (omega arith) (omega arith)
       (top-complement s (wrap (2 ^ 32 - 1 - raised a + raised b + c))
-      (rw hs (complement (j + (2 ^ 32 - 1 - b + a)) (2 ^ 32 - 1 - raised a + raised b + c) (1 + top a - top b)
-      (signed-sums a b (2 ^ 32 - 1 - raised a) (2 ^ 32 - 1 - b) (raised a) (raised b) (top a) (top b) c j
+      (rw hs (complement (j + (2 ^ 32 - 1 - b + a)) (2 ^ 32 - 1 - raised a + raised b + c) (1 + topBit a - topBit b)
+      (signed-sums a b (2 ^ 32 - 1 - raised a) (2 ^ 32 - 1 - b) (raised a) (raised b) (topBit a) (topBit b) c j
       (omega arith) (omega arith) (raised-is a h) (raised-is b k) (omega arith) hj))))
 
   -- P = ~A, Q = B, s = ~(P + Q + c)

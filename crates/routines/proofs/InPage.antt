@@ -30,7 +30,7 @@ byte-at c n j h = getD-take n (drop c page) j 0 h ∙ getD-drop c page j 0
 abbrev pub codeAt : ℕ → ℕ → List Instr
 codeAt c n = map (decode Narrow) (bytesAt c n)
 
--- by one computation
+-- what the bytes of the page decode to
 pub stands : (c : ℕ) (is : List Instr) → codeAt c (length is) ≡ is → c + length is ≤ pageLength → InPage c is
 unfolding decode below32
 stands c is same inside = record {

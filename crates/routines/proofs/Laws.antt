@@ -1,4 +1,4 @@
--- The laws of the other routines.
+-- The laws of the routines but 36 to 39.
 use Prim.Native.Nat.{ℕ, _+_, _-_, _*_, _%_, _^_, _<_}
 use mathlib.Core.Path.{_≡_, refl, ap, _∙_}
 use mathlib.Core.Bool.{Bool, true, false, not, cond}
@@ -13,7 +13,7 @@ use Rattle.arithmetic.specs.declared.UnOp.the-variants.{Not, Flip, Neg}
 use Rattle.arithmetic.specs.declared.BinOp.the-variants.{Add, And, Or, Eq, Neq, Sub, Xor}
 use Rattle.arithmetic.proofs.Bounds.{unary-lt, binary-lt}
 use Rattle.frame.proofs.Frame.{address}
-use Rattle.routines.proofs.Words.{top-or, topBit, top-bit, low-not, wrap-left, wrap-right}
+use Rattle.routines.proofs.Words.{top-or, broughtDown, brought-down, low-not, wrap-left, wrap-right}
 
 -- what EQ, NEQ and NEQBRANCH share: whether x is 0
 abbrev apartFromZero : ℕ → ℕ
@@ -22,10 +22,10 @@ apartFromZero x = binaryOf Or (binaryOf Add 1 (unaryOf Not x)) x
 apart-lt : {x : ℕ} → x < 2 ^ 32 → apartFromZero x < 2 ^ 32
 apart-lt {x} h = binary-lt Or (binary-lt Add {a = 1} {b = unaryOf Not x} (omega arith) (unary-lt Not x)) h
 
-nonzero : {x : ℕ} → x < 2 ^ 32 → topBit (apartFromZero x) ≡ oneIf (not (eqb x 0))
+nonzero : {x : ℕ} → x < 2 ^ 32 → broughtDown (apartFromZero x) ≡ oneIf (not (eqb x 0))
 unfolding binaryOf unaryOf
 nonzero {x} h =
-    top-bit (apart-lt h) ∙ top-or (binary-lt Add {a = 1} {b = unaryOf Not x} (omega arith) (unary-lt Not x)) h ∙
+    brought-down (apart-lt h) ∙ top-or (binary-lt Add {a = 1} {b = unaryOf Not x} (omega arith) (unary-lt Not x)) h ∙
     elim (ℕ-discrete x 0) [
       | yes e ↦ rw (eq-eqb x 0 e) (omega arith)
       | no n ↦ rw (ne-eqb x 0 n) (omega arith)
@@ -47,7 +47,7 @@ module _ {a b : ℕ} (h : a < 2 ^ 32) (k : b < 2 ^ 32) where
         | no n ↦ rw (ne-eqb a b n, ne-eqb (2 ^ 32 - 1 - wrap (a + (2 ^ 32 - 1 - b))) 0 (omega arith))
       ]
 
-  pub not-equal : topBit (apartFromZero (difference a b)) ≡ binaryOf Neq a b
+  pub not-equal : broughtDown (apartFromZero (difference a b)) ≡ binaryOf Neq a b
   unfolding binaryOf
   not-equal = nonzero (unary-lt Not _) ∙ rw same-difference
 
@@ -72,10 +72,10 @@ unfolding binaryOf unaryOf
 negation h = omega arith
 
 -- A - 1 more than the return address where B is not 0
-pub branch : {a b r : ℕ} (c : ℕ) → r ≡ wrap (c + 1) → a < 2 ^ 32 → b < 2 ^ 32
-    → binaryOf Add (binaryOf And (binaryOf Add 4294967295 a) (binaryOf Add 1 (unaryOf Not (topBit (apartFromZero b))))) r
+pub branch : {b r : ℕ} (a c : ℕ) → r ≡ wrap (c + 1) → b < 2 ^ 32
+    → binaryOf Add (binaryOf And (binaryOf Add 4294967295 a) (binaryOf Add 1 (unaryOf Not (broughtDown (apartFromZero b))))) r
     ≡ cond (eqb b 0) (wrap (c + 1)) (wrap (c + a))
-branch {a} {b} c e h k = rw (nonzero k, e) (by (eqb b 0))
+branch {b} a c e k = rw (nonzero k, e) (by (eqb b 0))
   where
     back : (c : ℕ) → wrap (wrap (4294967295 + a) % 2 ^ 32 + wrap (c + 1)) ≡ wrap (c + a)
     back c = rw (wrap-right (wrap (4294967295 + a) % 2 ^ 32) (c + 1)) (omega arith)
@@ -86,8 +86,8 @@ branch {a} {b} c e h k = rw (nonzero k, e) (by (eqb b 0))
     by false = unfold binaryOf unaryOf in (rw (and-mask (wrap (4294967295 + a)) 32) (back c))
 
 -- from a PUSHSP two words lower
-pub stack-address : (base p : ℕ) {a : ℕ} → a < 2 ^ 32
+pub stack-address : (base p a : ℕ)
     → binaryOf Add 8 (binaryOf Add (address base p) (binaryOf Add (binaryOf Add a a) (binaryOf Add a a)))
     ≡ wrap (4 * (base + (p + 2)) + 4 * a)
 unfolding binaryOf address
-stack-address base p {a} h = simp (wrap-left, wrap-right) (ap wrap (omega arith))
+stack-address base p a = simp (wrap-left, wrap-right) (ap wrap (omega arith))

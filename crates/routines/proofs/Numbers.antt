@@ -1,12 +1,11 @@
 -- The numbers of demand 3: that they are enough for the short instructions, and that they are the paper's.
-use Prim.Native.Nat.{ℕ, _+_, _*_, _≤_}
+use Prim.Native.Nat.{_+_, _≤_}
 use mathlib.Core.Path.{_≡_, refl}
 use mathlib.Core.Bool.{Bool, true, _&&_}
 use borrow.Author.Tests.{leb-true}
 use lib.Dec.{leb}
 use Rattle.memory.proofs.Tests.{In, both, every, at-entry}
 use Rattle.routines.specs.Constants.{pageLength, firstStackWord, freeWords, stepBound}
-use Rattle.routines.specs.Page.{vector}
 use Rattle.routines.specs.Shorts.{Short, shorts}
 
 -- the steps of each are within the bound, and its words are among those that are free
@@ -28,11 +27,3 @@ page-bytes = refl
 -- 16 words free means sp is at least 528
 pub free-words : (freeWords ≡ 16) × (firstStackWord + freeWords ≡ 528)
 free-words = (refl, refl)
-
--- 200 times n
-pub bound : (n : ℕ) → stepBound * n ≡ 200 * n
-bound n = refl
-
--- byte 49 goes to 544
-pub vector-49 : vector 49 ≡ 544
-vector-49 = refl

@@ -16,13 +16,13 @@ use Rattle.routines.specs.Constants.{pageLength}
 use Rattle.routines.specs.Page.{parts, vector, page}
 use Rattle.routines.proofs.Entries.{same-at}
 use Rattle.routines.proofs.InPage.{code, bytesAt, byte-at}
-use Rattle.routines.proofs.Straight.{Straight, rows, inPage, same-code}
+use Rattle.routines.proofs.Straight.{Straight, rows, codeOf, codeInPage, same-code}
 
 pub page-length : length page ≡ pageLength
 page-length = unfold page in refl
 
 -- each byte is an IM or a core instruction, never 0, 1, 3, 14, 15 or 32 to 63
-abbrev pub barred : ℕ → Bool
+abbrev barred : ℕ → Bool
 barred b = eqb b 0 || eqb b 1 || eqb b 3 || eqb b 14 || eqb b 15 || leb 32 b && ltb b 64
 
 abbrev pub permitted : ℕ → Bool
@@ -50,7 +50,7 @@ at-address f x (b ∷ bs) e (suc j) h =
     rw next at (at-address f (suc x) bs (both (f x b) (everyFrom f (suc x) bs) e .1) j (le-of-suc-le-suc h))
 
 -- address x lies in no part
-abbrev pub inNoPart : ℕ → Bool
+abbrev inNoPart : ℕ → Bool
 inNoPart x = every (λ o. ltb x (o .0) || leb (o .0 + length (code (o .1))) x) parts
 
 abbrev elevenIfUnused : ℕ → ℕ → Bool
@@ -69,7 +69,7 @@ abbrev poppcLast : ℕ → ℕ → ℕ → Bool
 poppcLast n j b = cond (eqb (suc j) n) (eqb b 4) (not (eqb b 4))
 
 abbrev ownVector : Straight → Bool
-ownVector o = leb (length (code (o .lines))) 32 && everyFrom (poppcLast (length (code (o .lines)))) 0 (bytesAt (vector (o .byte)) (length (code (o .lines))))
+ownVector o = leb (length (codeOf o)) 32 && everyFrom (poppcLast (length (codeOf o))) 0 (bytesAt (vector (o .byte)) (length (codeOf o)))
 
 own-vector-test : every ownVector rows ≡ true
 unfolding page
@@ -77,9 +77,9 @@ own-vector-test = refl
 
 -- a straight routine lies whole within the 32 bytes of its vector, and leaves them only by its last instruction, its one POPPC
 pub record OwnVector (o : Straight) : Type 0 where
-  pub whole : length (code (o .lines)) ≤ 32
-  pub last : (j : ℕ) → suc j ≡ length (code (o .lines)) → getD page (vector (o .byte) + j) 0 ≡ 4
-  pub no-other : (j : ℕ) → suc j < length (code (o .lines)) → getD page (vector (o .byte) + j) 0 ≢ 4
+  pub whole : length (codeOf o) ≤ 32
+  pub last : (j : ℕ) → suc j ≡ length (codeOf o) → getD page (vector (o .byte) + j) 0 ≡ 4
+  pub no-other : (j : ℕ) → suc j < length (codeOf o) → getD page (vector (o .byte) + j) 0 ≢ 4
 
 pub own-vector : {o : Straight} → In o rows → OwnVector o
 own-vector {o} i = record {
@@ -89,7 +89,7 @@ own-vector {o} i = record {
 }
   where
     n : ℕ
-    n = length (code (o .lines))
+    n = length (codeOf o)
 
     bytes : List ℕ
     bytes = bytesAt (vector (o .byte)) n
@@ -98,7 +98,7 @@ own-vector {o} i = record {
     tests = both (leb n 32) (everyFrom (poppcLast n) 0 bytes) (at-entry ownVector rows own-vector-test i)
 
     same-length : length bytes ≡ n
-    same-length = sym (length-map bytes (decode Narrow)) ∙ ap length (same-at inPage (λ o. code (o .lines)) rows same-code i)
+    same-length = sym (length-map bytes (decode Narrow)) ∙ ap length (same-at codeInPage codeOf rows same-code i)
 
     at : (j : ℕ) → j < n → poppcLast n j (getD page (vector (o .byte) + j) 0) ≡ true
     at j h = rw (zero-add j, byte-at (vector (o .byte)) n j h) at (at-address (poppcLast n) 0 bytes (tests .1) j (rw same-length h))

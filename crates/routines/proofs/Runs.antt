@@ -7,53 +7,58 @@ use lib.ListN.{take}
 use Rattle.memory.proofs.Tests.{In}
 use Rattle.arithmetic.specs.Words.{wrap, flipped}
 use Rattle.arithmetic.specs.Operations.{unaryOf, binaryOf}
-use Rattle.frame.proofs.Frame.{Frame, Frame.running, Frame.left, Frame.stuck, through}
+use Rattle.frame.proofs.Frame.{Frame, Frame.running, Frame.jumped, Frame.stuck, through}
 use Rattle.routines.specs.Routines.{lessThan}
 use Rattle.routines.proofs.Entries.{Each, Each.end, Each._&_, law-at, same-at}
 use Rattle.routines.proofs.InPage.{code}
 use Rattle.routines.proofs.Comparisons.{less-than, less-than-or-equal, u-less-than, u-less-than-or-equal}
 use Rattle.routines.proofs.Laws.{equal, not-equal, negation, subtraction, exclusive-or, branch, stack-address}
-use Rattle.routines.proofs.Straight.{Straight, rows, operands}
+use Rattle.routines.proofs.Straight.{Straight, rows, codeOf, operands}
 
 abbrev goal : Frame → ℕ
 goal (running p f ws) = 0
-goal (left w p ws) = w
+goal (jumped w p ws) = w
 goal stuck = 0
 
 abbrev words : Frame → List ℕ
 words (running p f ws) = ws
-words (left w p ws) = ws
+words (jumped w p ws) = ws
 words stuck = []
 
 -- LESSTHAN where A - B wraps: A = 80000000 and B = 1
-pub wide-slur : through 0 (code lessThan) 4 false (2101 ∷ 2147483648 ∷ 1 ∷ []) ≡ left 2101 6 (1 ∷ [])
+pub trebled-slur : through 0 (code lessThan) 4 false (2101 ∷ 2147483648 ∷ 1 ∷ []) ≡ jumped 2101 6 (1 ∷ [])
 unfolding through unaryOf binaryOf flipped
-wide-slur = refl
+trebled-slur = refl
 
--- EMULATE at counter c has pushed the return address r; a and b are the operands, and word base is the lowest that the routine uses
-module _ (base c : ℕ) {r a b : ℕ} (return : r ≡ wrap (c + 1)) (hA : a < 2 ^ 32) (hB : b < 2 ^ 32) where
+-- EMULATE has pushed the return address r; a and b are the operands, and word base is the lowest that the routine may use
+module _ (base r a b : ℕ) where
   abbrev entered : Straight → ℕ → Frame
-  entered o free = through base (code (o .lines)) free false (r ∷ take (operands o) (a ∷ b ∷ []))
+  entered o free = through base (codeOf o) free false (r ∷ take (operands o) (a ∷ b ∷ []))
 
   abbrev run : Straight → Frame
   run o = entered o (o .depth)
 
-  -- it comes to its POPPC, with sp where the short one leaves it
-  runs : map run rows ≡ map (λ o. left (goal (run o)) (suc (o .depth) + o .popped) (words (run o))) rows
+  -- where it ends: POPPC goes somewhere, with sp where the short one leaves it
+  abbrev ended : Straight → Frame
+  ended o = jumped (goal (run o)) (suc (o .depth) + o .popped) (words (run o))
+
+  runs : map run rows ≡ map ended rows
   unfolding through
   runs = refl
 
-  -- and does not with fewer words
+  -- with fewer words it does not come to its end
   pub no-fewer : map (λ o. entered o (o .depth - 1)) rows ≡ map (λ o. stuck) rows
   unfolding through
   no-fewer = refl
 
+-- EMULATE was at counter c
+module _ (base c : ℕ) {r a b : ℕ} (return : r ≡ wrap (c + 1)) (hA : a < 2 ^ 32) (hB : b < 2 ^ 32) where
   -- what is left of the words that it reads
-  abbrev pub remaining : Straight → List ℕ
+  abbrev remaining : Straight → List ℕ
   remaining o = cond (o .hasValue) (o .value c (base + suc (o .depth)) a b ∷ []) []
 
   abbrev Law : Straight → Type 0
-  Law o = (goal (run o) ≡ o .target c a b) × (words (run o) ≡ remaining o)
+  Law o = (goal (run base r a b o) ≡ o .target c a b) × (words (run base r a b o) ≡ remaining o)
 
   -- to the return address, with a result
   returns : {x y : ℕ} → x ≡ y → (r ≡ wrap (c + 1)) × ((x ∷ []) ≡ (y ∷ []))
@@ -72,11 +77,13 @@ module _ (base c : ℕ) {r a b : ℕ} (return : r ≡ wrap (c + 1)) (hA : a < 2 
       & returns (negation hA)
       & returns (subtraction hA hB)
       & returns (exclusive-or hA hB)
-      & (branch c return hA hB, refl)
-      & returns (stack-address base 1 hA)
+      & (branch a c return hB, refl)
+      & returns (stack-address base 1 a)
       & end
 
-  pub runs-to-end : {o : Straight} → In o rows → run o ≡ left (o .target c a b) (suc (o .depth) + o .popped) (remaining o)
+  pub runs-to-end : {o : Straight} → In o rows
+      → through base (codeOf o) (o .depth) false (r ∷ take (operands o) (a ∷ b ∷ []))
+      ≡ jumped (o .target c a b) (suc (o .depth) + o .popped) (remaining o)
   runs-to-end {o} i =
       let (target, rest) = law-at laws i in
-      same-at run (λ o. left (goal (run o)) (suc (o .depth) + o .popped) (words (run o))) rows runs i ∙ rw (target, rest)
+      same-at (run base r a b) (ended base r a b) rows (runs base r a b) i ∙ rw (target, rest)

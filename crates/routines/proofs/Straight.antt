@@ -17,7 +17,7 @@ use Rattle.machine.specs.declared.Core.the-variants.{Narrow, Wide}
 use Rattle.machine.specs.declared.State.{State}
 use Rattle.machine.specs.State.{jump}
 use Rattle.machine.specs.Instructions.{Instr, Instr.EMULATE, decode, below32, below64}
-use Rattle.machine.specs.Table.{Act.goes, Act.puts, Row, _⇒_, row, counter, sp, A, B}
+use Rattle.machine.specs.Table.{Act, Act.goes, Act.puts, _⇒_, row, counter, sp, A, B}
 use Rattle.routines.specs.Constants.{pageLength}
 use Rattle.routines.specs.Routines.{Line, lessThan, lessThanOrEqual, uLessThan, uLessThanOrEqual, call, eq, neq, neg, sub, xor, neqBranch, pushSpAdd}
 use Rattle.routines.specs.Page.{vector, page}
@@ -68,28 +68,31 @@ rows =
     ∷ oneToOne 61 following (λ c s x y. wrap (4 * s + 4 * x)) pushSpAdd 2
     ∷ []
 
--- the page has each routine at its vector
-abbrev pub inPage : Straight → List Instr
-inPage o = codeAt (vector (o .byte)) (length (code (o .lines)))
+abbrev pub codeOf : Straight → List Instr
+codeOf o = code (o .lines)
 
-pub same-code : map inPage rows ≡ map (λ o. code (o .lines)) rows
+abbrev pub codeInPage : Straight → List Instr
+codeInPage o = codeAt (vector (o .byte)) (length (codeOf o))
+
+-- the page has each routine at its vector
+pub same-code : map codeInPage rows ≡ map codeOf rows
 unfolding page decode below32
 same-code = refl
 
 abbrev endsInPage : Straight → Bool
-endsInPage o = leb (vector (o .byte) + length (code (o .lines))) pageLength
+endsInPage o = leb (vector (o .byte) + length (codeOf o)) pageLength
 
 all-end : every endsInPage rows ≡ true
 all-end = refl
 
-pub at-vector : {o : Straight} → In o rows → InPage (vector (o .byte)) (code (o .lines))
+pub at-vector : {o : Straight} → In o rows → InPage (vector (o .byte)) (codeOf o)
 at-vector {o} i =
-    stands (vector (o .byte)) (code (o .lines)) (same-at inPage (λ o. code (o .lines)) rows same-code i)
+    stands (vector (o .byte)) (codeOf o) (same-at codeInPage codeOf rows same-code i)
     (leb-true _ _ (at-entry endsInPage rows all-end i))
 
 -- its cost: a step and a word for EMULATE, and its routine's
 abbrev pub cost : Straight → Short
-cost o = record { byte = o .byte; steps = 1 + length (code (o .lines)); words = suc (o .depth) }
+cost o = record { byte = o .byte; steps = 1 + length (codeOf o); words = suc (o .depth) }
 
 pub costs : map cost rows ≡ shorts
 costs = refl
@@ -115,15 +118,14 @@ wordsFrom zero w = []
 wordsFrom (suc n) w = w ∷ wordsFrom n (w + 1)
 
 module _ (m : List ℕ) (s : State) where
-  -- the row of the machine's table that o says
-  abbrev pub rowOf : Straight → Row
-  rowOf o =
-      let t : State = jump s (o .target (counter m s) (A m s) (B m s)) (sp m s + o .popped) in
-      wordsFrom (operands o) (sp m s)
-      ⇒ cond (o .hasValue) (puts t (sp m s + o .popped) (o .value (counter m s) (sp m s) (A m s) (B m s))) (goes t)
+  -- what o does, where t says whether it leaves a word
+  abbrev pub actOf : Straight → Bool → Act
+  actOf o t =
+      let new : State = jump s (o .target (counter m s) (A m s) (B m s)) (sp m s + o .popped) in
+      cond t (puts new (sp m s + o .popped) (o .value (counter m s) (sp m s) (A m s) (B m s))) (goes new)
 
-  abbrev pub Means : Straight → Type 0
-  Means o = row m s (decode Wide (o .byte)) ≡ rowOf o
+  abbrev Means : Straight → Type 0
+  Means o = row m s (decode Wide (o .byte)) ≡ (wordsFrom (operands o) (sp m s) ⇒ actOf o (o .hasValue))
 
   keeps-sp : (pc v : ℕ)
       → (sp m s ∷ [] ⇒ puts (jump s pc (sp m s)) (sp m s) v) ≡ (sp m s ∷ [] ⇒ puts (jump s pc (sp m s + 0)) (sp m s + 0) v)

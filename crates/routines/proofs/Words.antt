@@ -10,31 +10,26 @@ use Rattle.arithmetic.specs.Operations.{unaryOf, binaryOf}
 use Rattle.arithmetic.specs.declared.UnOp.the-variants.{Not, Flip}
 use Rattle.arithmetic.specs.declared.BinOp.the-variants.{And, Or}
 
-abbrev pub top : ℕ → ℕ
-top x = x / 2 ^ 31
+abbrev pub topBit : ℕ → ℕ
+topBit x = x / 2 ^ 31
 
 -- AND and OR of two bits
-and-bit : (x y : ℕ) → x < 2 → y < 2 → bitAnd x y ≡ min x y
-and-bit zero y h k = omega arith
-and-bit (suc zero) zero h k = refl
-and-bit (suc zero) (suc zero) h k = refl
-and-bit (suc zero) (suc (suc y)) h k = absurd (omega arith)
-and-bit (suc (suc x)) y h k = absurd (omega arith)
+on-bits : (f g : ℕ → ℕ → ℕ) → f 0 0 ≡ g 0 0 → f 0 1 ≡ g 0 1 → f 1 0 ≡ g 1 0 → f 1 1 ≡ g 1 1 → (x y : ℕ) → x < 2 → y < 2 → f x y ≡ g x y
+on-bits f g e₀₀ e₀₁ e₁₀ e₁₁ zero zero h k = e₀₀
+on-bits f g e₀₀ e₀₁ e₁₀ e₁₁ zero (suc zero) h k = e₀₁
+on-bits f g e₀₀ e₀₁ e₁₀ e₁₁ (suc zero) zero h k = e₁₀
+on-bits f g e₀₀ e₀₁ e₁₀ e₁₁ (suc zero) (suc zero) h k = e₁₁
+on-bits f g e₀₀ e₀₁ e₁₀ e₁₁ zero (suc (suc y)) h k = absurd (omega arith)
+on-bits f g e₀₀ e₀₁ e₁₀ e₁₁ (suc zero) (suc (suc y)) h k = absurd (omega arith)
+on-bits f g e₀₀ e₀₁ e₁₀ e₁₁ (suc (suc x)) y h k = absurd (omega arith)
 
-or-bit : (x y : ℕ) → x < 2 → y < 2 → bitOr x y ≡ max x y
-or-bit zero y h k = omega arith
-or-bit (suc zero) zero h k = refl
-or-bit (suc zero) (suc zero) h k = refl
-or-bit (suc zero) (suc (suc y)) h k = absurd (omega arith)
-or-bit (suc (suc x)) y h k = absurd (omega arith)
-
-pub top-and : {a b : ℕ} → a < 2 ^ 32 → b < 2 ^ 32 → top (binaryOf And a b) ≡ min (top a) (top b)
+pub top-and : {a b : ℕ} → a < 2 ^ 32 → b < 2 ^ 32 → topBit (binaryOf And a b) ≡ min (topBit a) (topBit b)
 unfolding binaryOf
-top-and {a} {b} h k = and-shr a b 31 ∙ and-bit (a / 2 ^ 31) (b / 2 ^ 31) (omega arith) (omega arith)
+top-and {a} {b} h k = and-shr a b 31 ∙ on-bits bitAnd min refl refl refl refl (a / 2 ^ 31) (b / 2 ^ 31) (omega arith) (omega arith)
 
-pub top-or : {a b : ℕ} → a < 2 ^ 32 → b < 2 ^ 32 → top (binaryOf Or a b) ≡ max (top a) (top b)
+pub top-or : {a b : ℕ} → a < 2 ^ 32 → b < 2 ^ 32 → topBit (binaryOf Or a b) ≡ max (topBit a) (topBit b)
 unfolding binaryOf
-top-or {a} {b} h k = or-shr a b 31 ∙ or-bit (a / 2 ^ 31) (b / 2 ^ 31) (omega arith) (omega arith)
+top-or {a} {b} h k = or-shr a b 31 ∙ on-bits bitOr max refl refl refl refl (a / 2 ^ 31) (b / 2 ^ 31) (omega arith) (omega arith)
 
 -- FLIP and AND 1 bring the top bit down
 flip-low : (k x : ℕ) → flipped (suc k) x % 2 ≡ x / 2 ^ k % 2
@@ -48,12 +43,12 @@ low-bit : (x : ℕ) → binaryOf And 1 x ≡ x % 2
 unfolding binaryOf
 low-bit x = and-comm 1 x ∙ and-mask x 1
 
-abbrev pub topBit : ℕ → ℕ
-topBit x = binaryOf And 1 (unaryOf Flip x)
+abbrev pub broughtDown : ℕ → ℕ
+broughtDown x = binaryOf And 1 (unaryOf Flip x)
 
-pub top-bit : {x : ℕ} → x < 2 ^ 32 → topBit x ≡ top x
+pub brought-down : {x : ℕ} → x < 2 ^ 32 → broughtDown x ≡ topBit x
 unfolding unaryOf
-top-bit {x} h = low-bit (flipped 32 x) ∙ flip-low 31 x ∙ omega arith
+brought-down {x} h = low-bit (flipped 32 x) ∙ flip-low 31 x ∙ omega arith
 
 pub low-not : {x : ℕ} → x < 2 ^ 32 → binaryOf And 1 (unaryOf Not x) ≡ 1 - binaryOf And 1 x
 unfolding unaryOf

@@ -24,7 +24,7 @@ AND = binary And
 abbrev OR : Instr
 OR = binary Or
 
--- 36 LESSTHAN: the top bit of (P & Q) | ((P | Q) & s), where P = A, Q = ~B and s = P + Q + 1
+-- 36 LESSTHAN: the top bit of x = (P & Q) | ((P | Q) & s), where P = A, Q = ~B and s = P + Q + 1
 abbrev pub lessThan : List Line
 lessThan =
     (113, LOADSP 1)  -- A
