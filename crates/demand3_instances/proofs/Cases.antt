@@ -57,8 +57,8 @@ cases =
     ∷ case 2176 (144 ∷ 180 ∷ 45 ∷ []) 3 2100 543 2051
     ∷ case 2176 (131 ∷ 48 ∷ []) 2 2050 543 4294967293
     ∷ case 2176 (255 ∷ 61 ∷ []) 2 2050 543 2168
-    -- NEQBRANCH loops back twice: 3 is counted down to 0
-    ∷ case 2176 (131 ∷ 11 ∷ 255 ∷ 5 ∷ 112 ∷ 252 ∷ 56 ∷ []) 17 2055 543 0
+    -- NEQBRANCH loops back once: 2 is counted down to 0
+    ∷ case 2176 (130 ∷ 11 ∷ 255 ∷ 5 ∷ 112 ∷ 252 ∷ 56 ∷ []) 12 2055 543 0
     -- SUB, its result STOREd at 2048, LOADed again, and kept by a STORESP
     ∷ case 2176 (133 ∷ 11 ∷ 131 ∷ 49 ∷ 144 ∷ 128 ∷ 12 ∷ 144 ∷ 128 ∷ 8 ∷ 112 ∷ 81 ∷ []) 12 2060 543 2
     -- the printed case of zpurun, up to its BREAK
