@@ -15,7 +15,7 @@ use Rattle.machine.specs.State.{Place, fetched}
 use Rattle.machine.specs.Effects.{Effect, Effect.refuse, Effect.stop, Effect.go, memoryAfter, landed}
 use Rattle.machine.specs.Table.{stepOf}
 use Rattle.machine.specs.Run.{steps}
-use Rattle.laws.proofs.Steps.{Goes, first-step, no-step, steps-add, steps-keep, steps-length}
+use Rattle.laws.proofs.Steps.{Goes, first-step, no-step, none-taken, steps-add, steps-keep, steps-length}
 use Rattle.routines.specs.Constants.{pageLength, stepBound}
 use Rattle.emulation.specs.LeftBehind.{Dirt, between, writes}
 use Rattle.emulation.specs.Emulation.{WithPage, Alike, Reached}
@@ -87,9 +87,7 @@ follows : (n : ℕ) (p q : Place) (d : Dirt) (x : Place) → steps Wide n p ≡ 
     → Reached (stepBound * n) x q (dirtAfter n p d)
 unfolding AllAllowed dirtAfter
 follows zero p q d x r F E S =
-    let same : some p ≡ some q = sym (no-step Wide p) ∙ r in
-    let p≡q : p ≡ q = cc in
-    rw (← p≡q) (record { count = 0; within-bound = omega arith; end = x; reached = no-step Narrow x; alike = E })
+    rw (← none-taken Wide p q r) (record { count = 0; within-bound = omega arith; end = x; reached = no-step Narrow x; alike = E })
 follows (suc n) p q d x r F E S =
     let e = stepOf Wide p in
     let (g, rest) = first-step Wide n p r in
@@ -105,5 +103,4 @@ follows (suc n) p q d x r F E S =
     }
 
 pub demand3 : Demand3
-demand3 n p q S R =
-    follows n p q clean p (R .none-stops) (R .all-allowed) itself S
+demand3 n p q S R = follows n p q clean p (R .none-stops) (R .all-allowed) itself S

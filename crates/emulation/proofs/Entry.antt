@@ -43,8 +43,11 @@ module _ {b n k : ℕ} {p : Place} (R : Begins b n k p) where
   abbrev return : ℕ
   return = wrap (p .state .pc .0 + 1)
 
+  abbrev firstTwo : List ℕ
+  firstTwo = A m (p .state) ∷ B m (p .state) ∷ []
+
   abbrev pub operandWords : List ℕ
-  operandWords = take n (A m (p .state) ∷ B m (p .state) ∷ [])
+  operandWords = take n firstTwo
 
   abbrev pub base : ℕ
   base = sp - suc k
@@ -62,9 +65,9 @@ module _ {b n k : ℕ} {p : Place} (R : Begins b n k p) where
   entry = stand (vector b) k false (return ∷ operandWords) m
 
   length-operands : length operandWords ≡ n
-  length-operands = length-take-le n (A m (p .state) ∷ B m (p .state) ∷ []) (R .at-most-two)
+  length-operands = length-take-le n firstTwo (R .at-most-two)
 
-  operand : (j : ℕ) → j < 2 → word m (sp + j) ≡ getD (A m (p .state) ∷ B m (p .state) ∷ []) j 0
+  operand : (j : ℕ) → j < 2 → word m (sp + j) ≡ getD firstTwo j 0
   operand zero h = rw (add-zero sp)
   operand (suc zero) h = refl
   operand (suc (suc j)) h = absurd (omega arith)
@@ -78,7 +81,7 @@ module _ {b n k : ℕ} {p : Place} (R : Begins b n k p) where
     holds = λ j h.
         let l : j < n = rw length-operands at h in
         let at-sp : base + suc k ≡ sp = omega (arith, R .room) in
-        rw at-sp (operand j (omega (arith, R .at-most-two)) ∙ sym (getD-take n (A m (p .state) ∷ B m (p .state) ∷ []) j 0 l));
+        rw at-sp (operand j (omega (arith, R .at-most-two)) ∙ sym (getD-take n firstTwo j 0 l));
     bytes = R .start .bytes;
   }
 

@@ -18,7 +18,7 @@ use Rattle.machine.specs.Effects.{Effect, guard, landed}
 use Rattle.machine.specs.Instructions.{decode}
 use Rattle.machine.specs.Table.{Act, _⇒_, row, reading, doing, effectOf, stepOf}
 use Rattle.machine.specs.Run.{steps}
-use Rattle.laws.proofs.Steps.{Goes, first-step, no-step}
+use Rattle.laws.proofs.Steps.{Goes, first-step, none-taken}
 use Rattle.routines.proofs.Straight.{wordsFrom}
 
 -- a test that an effect which goes on has passed
@@ -50,8 +50,7 @@ wide-step {b} {n} {act} {p} {q} here means one =
     let (going, rest) = first-step Wide 0 p one in
     let (fetches, x) = passed (ltb (p .state .pc .0) (length (p .memory))) Fetch read (rw in-row at going) in
     let (reads, y) = passed-reads (p .memory) (p .state) n (p .state .sp .0) (doing (p .memory) (p .state) act) (rw (in-row, x) at going) in
-    let same : some (landed (stepOf Wide p) p) ≡ some q = sym (no-step Wide _) ∙ rest in
-    record { inside = ltb-true _ _ fetches; there = reads; is = in-row ∙ x ∙ y; lands = cc }
+    record { inside = ltb-true _ _ fetches; there = reads; is = in-row ∙ x ∙ y; lands = sym (none-taken Wide _ q rest) }
   where
     read : Effect
     read = reading (p .memory) (p .state) (wordsFrom n (p .state .sp .0)) (doing (p .memory) (p .state) act)

@@ -22,7 +22,7 @@ use Rattle.machine.specs.Table.{Act.pushes, extended, row, doing, effectOf}
 use Rattle.machine.specs.Run.{onward}
 use Rattle.machine.proofs.Stack.{has-room}
 use Rattle.frame.proofs.Frame.{Frame, Frame.running, Frame.jumped, Frame.stuck, check, pushed, popping, reaching, put, address, instruction}
-use Rattle.frame.proofs.Window.{Window, top, small, shrunk, grown, aside, changed}
+use Rattle.frame.proofs.Window.{Window, top, small, shrunk, grown, written-below, changed}
 
 abbrev pub placeAt : ℕ → ℕ → Bool → List ℕ → Place
 placeAt pc sp f m = place m (state pc sp f)
@@ -103,7 +103,7 @@ module _ (base end : ℕ) (u : List ℕ) where
         → Does p (running (suc p) false (put n x xs)) (effect p (STORESP n))
     unfolding effectOf row
     storesp zero p x xs h W =
-        (setBytes m (4 * (base + p)) 4 x, rw (top-there W, add-zero (base + p), top-there W, top W, above p), aside x (shrunk W))
+        (setBytes m (4 * (base + p)) 4 x, rw (top-there W, add-zero (base + p), top-there W, top W, above p), written-below x (shrunk W))
     storesp (suc n) p x xs h W =
         let up : base + p + suc n ≡ base + suc p + n = omega arith in (
           setBytes m (4 * (base + suc p + n)) 4 x,

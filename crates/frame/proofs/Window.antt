@@ -71,10 +71,10 @@ module _ {base end : ℕ} {u : List ℕ} where
           let next : base + p + suc j ≡ base + suc p + j = omega arith in
           rw next (other-word m (base + p) v (base + suc p + j) (omega arith) ∙ W .holds j (omega arith))
 
-  -- the first free word is written
-  pub aside : {p : ℕ} {m ws : List ℕ} (v : ℕ) → Window base end (suc p) u m ws
+  -- the word just below sp is written
+  pub written-below : {p : ℕ} {m ws : List ℕ} (v : ℕ) → Window base end (suc p) u m ws
       → Window base end (suc p) u (setBytes m (4 * (base + p)) 4 v) ws
-  aside {p} {m} {ws} v W =
+  written-below {p} {m} {ws} v W =
       written (base + p) v W (omega arith) (omega (arith, W .fits)) (W .fits)
       (λ j h. other-word m (base + p) v (base + suc p + j) (omega arith) ∙ W .holds j h)
 

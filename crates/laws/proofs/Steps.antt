@@ -50,13 +50,17 @@ module _ (core : Core) where
   unfolding steps
   no-step p = refl
 
+  pub none-taken : (p q : Place) → steps core 0 p ≡ some q → p ≡ q
+  unfolding steps
+  none-taken p q h = cc
+
   pub one-step : (p q : Place) → onward (stepOf core p) p some ≡ some q → steps core 1 p ≡ some q
   unfolding steps
   one-step p q h = h
 
   pub steps-add : (n m : ℕ) (p q : Place) → steps core n p ≡ some q → steps core (n + m) p ≡ steps core m q
   unfolding steps
-  steps-add zero m p q h = let e : p ≡ q = cc in rw (zero-add, e)
+  steps-add zero m p q h = rw (zero-add, none-taken p q h)
   steps-add (suc n) m p q h =
       let (g, rest) = went (stepOf core p) p (steps core n) h in
       rw suc-add (goes-on (stepOf core p) p (steps core (n + m)) g ∙ steps-add n m (landed (stepOf core p) p) q rest)
@@ -65,7 +69,7 @@ module _ (core : Core) where
   pub steps-keep : (P : List ℕ → Type 0) → ((m : List ℕ) (a k v : ℕ) → P m → P (setBytes m a k v)) → (n : ℕ) (p q : Place)
       → steps core n p ≡ some q → P (p .memory) → P (q .memory)
   unfolding steps
-  steps-keep P write zero p q h x = let e : p ≡ q = cc in rw e at x
+  steps-keep P write zero p q h x = rw (none-taken p q h) at x
   steps-keep P write (suc n) p q h x =
       let (g, rest) = went (stepOf core p) p (steps core n) h in
       steps-keep P write n (landed (stepOf core p) p) q rest (kept (stepOf core p))
@@ -81,7 +85,7 @@ module _ (core : Core) where
   -- n steps done, and the run goes on from there with the count at c + n
   pub run-follows : (n k c : ℕ) (p q : Place) → steps core n p ≡ some q → runFrom core (n + k) c p ≡ runFrom core k (c + n) q
   unfolding steps runFrom
-  run-follows zero k c p q h = let e : p ≡ q = cc in rw (zero-add, add-zero, e)
+  run-follows zero k c p q h = rw (zero-add, add-zero, none-taken p q h)
   run-follows (suc n) k c p q h =
       let (g, rest) = went (stepOf core p) p (steps core n) h in
       rw suc-add

@@ -81,9 +81,7 @@ module _ (base c : ℕ) {r a b : ℕ} (return : r ≡ wrap (c + 1)) (hA : a < 2 
       & returns (stack-address base 1 a)
       & end
 
-  pub runs-to-end : {o : Straight} → In o rows
-      → through base (codeOf o) (o .depth) false (r ∷ take (operands o) (a ∷ b ∷ []))
-      ≡ jumped (o .target c a b) (suc (o .depth) + o .popped) (remaining o)
+  pub runs-to-end : {o : Straight} → In o rows → run base r a b o ≡ jumped (o .target c a b) (suc (o .depth) + o .popped) (remaining o)
   runs-to-end {o} i =
       let (target, rest) = law-at laws i in
       same-at (run base r a b) (ended base r a b) rows (runs base r a b) i ∙ rw (target, rest)
