@@ -11,7 +11,7 @@
 #include <endian.h>
 #include <string.h>
 
-#include "zpu.h"
+#include "ended.h"
 
 #define NOWHERE UINT64_MAX
 
@@ -45,17 +45,6 @@ static inline uint32_t flip(uint32_t a)
 static inline uint32_t quotient(uint32_t b, uint32_t a)
 {
     return a == UINT32_MAX ? 0 - b : (uint32_t)((int32_t)b / (int32_t)a);
-}
-
-static zpu_end ended(uint32_t outcome, uint32_t steps, zpu_state state)
-{
-    zpu_end end;
-
-    end.outcome = outcome;
-    end.steps = steps;
-    end.state = state;
-    end.state.flag = state.flag != 0;
-    return end;
 }
 
 /* A handler's tests, all before it changes anything: that there is a top, read into a; a top and a second, read into a and

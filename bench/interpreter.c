@@ -2,7 +2,7 @@
 #include <endian.h>
 #include <string.h>
 
-#include "zpu.h"
+#include "ended.h"
 
 enum { STEP = 100 }; /* an instruction was carried out; no outcome has this number */
 
@@ -287,17 +287,6 @@ static inline uint32_t step(machine *m, uint32_t core)
     case 96 ... 127: return loadsp(m, byte);
     default: return immediate(m, byte);
     }
-}
-
-static zpu_end ended(uint32_t outcome, uint32_t steps, zpu_state state)
-{
-    zpu_end end;
-
-    end.outcome = outcome;
-    end.steps = steps;
-    end.state = state;
-    end.state.flag = state.flag != 0;
-    return end;
 }
 
 zpu_end RUN(uint8_t *image, size_t length, zpu_state start, uint32_t core, uint32_t limit)
