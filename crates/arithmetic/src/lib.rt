@@ -1,17 +1,19 @@
 // What the instructions compute on words: A is the top of the stack, B the second.
+#![tactic(auto)]
+
 ghost use Rattle.std.specs.Prelude.{◌≡◌, ◌*◌, ◌/◌, ◌<◌, not, pos, neg_ℤ, if◌then◌else◌, int_div, int_le, int_lt, int_rem, unsigned_abs};
 ghost use Rattle.std.specs.Int.Signed.{non_neg, shr_z};
 ghost use Rattle.arithmetic.specs.Words.{wrap, one_if, signed, word_of, flipped};
 ghost use Rattle.arithmetic.specs.Operations.{shift_factor, unary_of, binary_of, division_of};
 
-#[derive(Drop)]
+#[derive(Clone, Copy)]
 pub enum UnOp {
     Not,
     Flip,
     Neg,
 }
 
-#[derive(Drop)]
+#[derive(Clone, Copy)]
 pub enum BinOp {
     Add,
     And,
@@ -30,7 +32,7 @@ pub enum BinOp {
     AShiftRight,
 }
 
-#[derive(Drop)]
+#[derive(Clone, Copy)]
 pub enum DivOp {
     Div,
     Mod,

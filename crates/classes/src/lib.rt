@@ -1,9 +1,11 @@
 // The class of a byte: the instruction that it is, if that is a common one.
+#![tactic(auto)]
+
 ghost use Rattle.classes.specs.Classes.{Agrees};
 
 // Bytes from 32 to 63 are EMULATE on the narrow core: those of `Sub`, `Call` and `Neqbranch`, and of `Emulate`, which on the wide
 // core are no common instructions.
-#[derive(Drop)]
+#[derive(Clone, Copy)]
 pub enum Class {
     Im,
     Loadsp,

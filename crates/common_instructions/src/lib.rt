@@ -2,6 +2,8 @@
 // everything where the run is to pause: the way is then a refusal by LIMIT, which no instruction gives. Each arm tests for that by
 // itself, for speed (docs/CHANGING.md). Four functions hand on to one another so that none is long; the compiler makes one match
 // of theirs.
+#![tactic(auto)]
+
 ghost use Rattle.std.specs.Prelude.{◌≡◌, false, ◌%◌};
 ghost use Rattle.machine.specs.declared.Core.TheVariants.{Narrow};
 ghost use Rattle.machine.specs.Table.{effect_of};

@@ -1,4 +1,6 @@
 // Which instruction a byte below 64 is on the wide core. Below 32 it is the same on the narrow one.
+#![tactic(auto)]
+
 ghost use Rattle.std.specs.Prelude.{◌≡◌, false, cond, ◌/◌, ◌%◌, ◌<◌, eqb};
 ghost use Rattle.machine.specs.declared.Core.TheVariants.{Wide};
 ghost use Rattle.machine.specs.Table.{effect_of};

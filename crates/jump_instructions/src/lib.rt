@@ -1,4 +1,6 @@
 // The instructions that set the counter: jumps, calls and branches.
+#![tactic(auto)]
+
 mod branches;
 mod calls;
 mod jumps;

@@ -1,4 +1,6 @@
 // What the machine is made of: its two cores, its state, the outcomes of a run, the way of an instruction and the answer of a step.
+#![tactic(auto)]
+
 ghost use Rattle.std.specs.Prelude.{◌≡◌, ◌+◌};
 ghost use Rattle.arithmetic.specs.Words.{wrap};
 ghost use Rattle.machine.specs.State.{next, next_flagged, jump};
@@ -7,13 +9,13 @@ ghost use Rattle.machine.specs.Inner.{answered};
 
 use memory::{ByteAddr, WordIndex};
 
-#[derive(Drop)]
+#[derive(Clone, Copy)]
 pub enum Core {
     Narrow,
     Wide,
 }
 
-#[derive(Drop)]
+#[derive(Clone, Copy)]
 pub enum Outcome {
     Limit,
     Break,
@@ -27,14 +29,14 @@ pub enum Outcome {
 }
 
 // How many bytes a load or a store moves.
-#[derive(Drop)]
+#[derive(Clone, Copy)]
 pub enum Width {
     Word,
     Half,
     Byte,
 }
 
-#[derive(Drop)]
+#[derive(Clone, Copy)]
 pub struct State {
     pub pc: ByteAddr,
     pub sp: WordIndex,
@@ -95,7 +97,7 @@ impl State {
 }
 
 // How an instruction goes: by which of the state's methods and with which stack pointer, by BREAK, or not at all, and why.
-#[derive(Drop)]
+#[derive(Clone, Copy)]
 pub enum Way {
     Next(WordIndex),
     NextFlagged(WordIndex),
@@ -105,7 +107,7 @@ pub enum Way {
 }
 
 // What a step answers: the next state, the state after a BREAK, or the state it refused to leave and why.
-#[derive(Drop)]
+#[derive(Clone, Copy)]
 pub enum Answer {
     Done(State),
     Broke(State),
@@ -113,7 +115,7 @@ pub enum Answer {
 }
 
 // How a run ended, after how many steps and where.
-#[derive(Drop)]
+#[derive(Clone, Copy)]
 pub struct Finish {
     pub outcome: Outcome,
     pub steps: u32,

@@ -1,14 +1,16 @@
 // The machine's memory: a lent byte image, read and written at a byte address or a word index.
+#![tactic(auto)]
+
 ghost use Rattle.std.specs.Prelude.{◌≡◌, ◌+◌, ◌*◌, ◌/◌, ◌%◌, ◌<◌, ◌≤◌, length, set};
 ghost use Rattle.memory.specs.Memory.{good_length, get_bytes, set_bytes, word};
 ghost use Rattle.memory.specs.Order.{reversed};
 
 // The address of a byte: what the program counter is, and what LOAD and STORE take.
-#[derive(Drop)]
+#[derive(Clone, Copy)]
 pub struct ByteAddr(pub u32);
 
 // The index of a word: what the stack pointer is.
-#[derive(Drop)]
+#[derive(Clone, Copy)]
 pub struct WordIndex(pub usize);
 
 impl ByteAddr {
@@ -38,6 +40,7 @@ impl WordIndex {
     }
 }
 
+#[tactic(auto, unfolding(crate::specs::Memory::good_length))]
 pub fn good_length(l: usize) -> bool
     ensures { result ≡ good_length l }
 {

@@ -1,4 +1,6 @@
 // The microcode page, and its laying over an image.
+#![tactic(auto)]
+
 mod page;
 
 ghost use Rattle.microcode.specs.Laying.{number, Lays};
@@ -9,7 +11,7 @@ use page::PAGE;
 // The narrow steps for a wide one, at most.
 pub const STEP_BOUND: u32 = 200;
 
-#[derive(Drop)]
+#[derive(Clone, Copy)]
 pub enum Laid {
     InPlace,
     TooShort,

@@ -1,1 +1,2 @@
 // Paths of the narrow core through the page: in proofs/.
+#![tactic(auto)]

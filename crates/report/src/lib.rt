@@ -1,4 +1,6 @@
 // What zpurun prints of an image.
+#![tactic(auto)]
+
 mod line;
 
 ghost use Rattle.std.specs.Prelude.{◌≡◌, true, ◌+◌, ◌≤◌, length};

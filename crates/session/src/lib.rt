@@ -1,4 +1,6 @@
 // A session of a core: the page over an image, and a run from just above the page, the stack empty.
+#![tactic(auto)]
+
 ghost use Rattle.std.specs.Prelude.{◌≡◌, true, length};
 ghost use Rattle.machine.specs.Run.{handed_back};
 ghost use Rattle.session.specs.Sessions.{takes, limit_of, session};

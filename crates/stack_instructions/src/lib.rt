@@ -1,5 +1,7 @@
 // The instructions that move words of the stack or its pointer, each under its own name: the image is written in place, and the
 // way is given by value.
+#![tactic(auto)]
+
 mod immediate;
 mod offsets;
 mod pointer;

@@ -9,7 +9,7 @@ use machine::{Outcome, State, Way};
 use memory::{ByteAddr, WordIndex};
 
 // How a push goes on.
-#[derive(Drop)]
+#[derive(Clone, Copy)]
 pub enum Then {
     Next,
     NextFlagged,

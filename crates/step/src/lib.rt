@@ -1,4 +1,6 @@
 // One step: the byte at the program counter, and the instruction that it is.
+#![tactic(auto)]
+
 ghost use Rattle.std.specs.Prelude.{◌≡◌, ◌<◌, ◌≤◌};
 ghost use Rattle.machine.specs.declared.Core.TheVariants.{Narrow};
 ghost use Rattle.machine.specs.State.{place};

@@ -1,4 +1,6 @@
 // The fast part of a run: as far as the common instructions lead.
+#![tactic(auto)]
+
 ghost use Rattle.std.specs.Prelude.{◌≡◌, ◌-◌, ◌^◌, ◌<◌, ◌≤◌, min};
 ghost use Rattle.machine.specs.State.{place};
 ghost use Rattle.machine.specs.Inner.{Ready};
@@ -7,7 +9,7 @@ ghost use Rattle.stretch.specs.Reaching.{Reaches};
 use machine::{Core, State, Way};
 
 // Where a run stands, and how many steps are left to it.
-#[derive(Drop)]
+#[derive(Clone, Copy)]
 pub struct Stand {
     pub state: State,
     pub left: u32,

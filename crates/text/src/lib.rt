@@ -1,4 +1,6 @@
 // Text put into a lent buffer: each function puts some bytes from a place on, and answers the place after them.
+#![tactic(auto)]
+
 ghost use Rattle.std.specs.Prelude.{◌≡◌, [], ◌∷◌, ◌<◌, length};
 ghost use Rattle.text.specs.Decimal.{digit, decimal};
 ghost use Rattle.text.specs.Text.{Puts, Room};

@@ -1,4 +1,6 @@
 // The public face: a step and a run of either core, on any image, state and limit, and the number of an outcome.
+#![tactic(auto)]
+
 ghost use Rattle.std.specs.Prelude.{◌≡◌, ◌+◌, ◌^◌, ◌<◌};
 ghost use Rattle.machine.specs.Outcomes.{number};
 ghost use Rattle.machine.specs.Inner.{Ready, finish_of};

@@ -1,4 +1,6 @@
 // The public face under C's calling convention: include/zpu.h declares it.
+#![tactic(auto)]
+
 ghost use Rattle.std.specs.Prelude.{◌≡◌, ◌^◌, ◌<◌};
 ghost use Rattle.machine.specs.State.{place};
 ghost use Rattle.machine.specs.Run.{run};
@@ -10,7 +12,7 @@ use memory::{ByteAddr, WordIndex};
 use microcode::Laid;
 
 #[repr(C)]
-#[derive(Drop)]
+#[derive(Clone, Copy)]
 pub struct CState {
     pub pc: u32,
     pub sp: u32,
@@ -18,7 +20,7 @@ pub struct CState {
 }
 
 #[repr(C)]
-#[derive(Drop)]
+#[derive(Clone, Copy)]
 pub struct CEnd {
     pub outcome: u32,
     pub steps: u32,

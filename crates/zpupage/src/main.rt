@@ -1,4 +1,6 @@
 // Writes the microcode page: the file that a light stand loads.
+#![tactic(auto)]
+
 use libc::STDOUT_FILENO;
 
 fn main() {

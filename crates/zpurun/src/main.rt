@@ -1,4 +1,6 @@
 // Reads an image on standard input, and prints how it ends on the wide and on the narrow core.
+#![tactic(auto)]
+
 ghost use Rattle.std.specs.Prelude.{◌≤◌};
 
 use libc::{STDIN_FILENO, STDOUT_FILENO};
