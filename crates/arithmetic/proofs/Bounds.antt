@@ -1,5 +1,5 @@
 -- Every result is a word.
-use Rattle.std.proofs.Common.{ℕ, zero, suc, ◌+◌, ◌-◌, ◌*◌, ◌/◌, ◌%◌, ◌^◌, ◌<◌, Bool, true, false, not, eqb, ltb, leb, ℤ, pos, negsuc, pow-suc, div-le_self, arith}
+use Rattle.std.proofs.Common.{ℕ, zero, suc, ◌+◌, ◌*◌, ◌/◌, ◌%◌, ◌^◌, ◌<◌, Bool, true, false, not, eqb, ltb, leb, ℤ, pos, negsuc, pow-suc, div-le_self, arith}
 use lib.Bits.{and_le_l, or_lt, xor_lt}
 use lib.Signed.{lt_z, le_z, shr_z}
 use Rattle.arithmetic.specs.Words.{one_if, signed, word_of, flipped}

@@ -105,6 +105,7 @@ fn flip(a: u32) -> u32
     r
 }
 
+#[tactic(auto, unfolding(crate::specs::Operations::unary_of))]
 pub fn unary(op: UnOp, a: u32) -> u32
     ensures { result ≡ unary_of op a }
 {
@@ -115,6 +116,7 @@ pub fn unary(op: UnOp, a: u32) -> u32
     }
 }
 
+#[tactic(auto, unfolding(crate::specs::Operations::binary_of))]
 pub fn binary(op: BinOp, a: u32, b: u32) -> u32
     ensures { result ≡ binary_of op a b }
 {
@@ -175,6 +177,7 @@ fn rem(a: u32, b: u32) -> u32
     signed_as(is_negative(b), magnitude(b) % magnitude(a))
 }
 
+#[tactic(auto, unfolding(crate::specs::Operations::division_of))]
 pub fn division(op: DivOp, a: u32, b: u32) -> u32
     requires { 0 < a }
     ensures { result ≡ division_of op a b }
