@@ -23,6 +23,6 @@ pub fn lay(image: &mut [u8]) -> Laid
     if image.len() < LENGTH {
         return Laid::TooShort;
     }
-    bytes::copy(&PAGE, image);
+    image[..LENGTH].copy_from_slice(&PAGE);
     Laid::InPlace
 }
