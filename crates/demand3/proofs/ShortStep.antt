@@ -15,7 +15,6 @@ use Rattle.machine.specs.State.{Place, fetched}
 use Rattle.machine.specs.Effects.{Effect, state_after, landed}
 use Rattle.machine.specs.Instructions.{among}
 use Rattle.machine.specs.Table.{step_of}
-use Rattle.machine.specs.Run.{steps}
 use Rattle.laws.proofs.Steps.{Goes, goes_on, one_step}
 use Rattle.routines.specs.Constants.{page_length, first_stack_word, free_words}
 use Rattle.routines.specs.Shorts.{Short, shorts}
