@@ -22,7 +22,7 @@ use Rattle.machine.specs.State.{Place, fetched, next}
 use Rattle.machine.specs.Effects.{Effect, Effect.refuse, Effect.stop, Effect.go}
 use Rattle.machine.specs.Instructions.{Instr, Instr.STORESP, Instr.LOADSP, Instr.IM, decode, below32, below64, inverted, among}
 use Rattle.machine.specs.Table.{Row, row, reading, doing, effect_of, step_of}
-use Rattle.laws.specs.Given.{refusal_of, first_of, illegals, accesses, divisions, fetch, illegal, stack, address, divide, given}
+use Rattle.laws.specs.Given.{refusal_of, first_given, illegals, accesses, divisions, fetch, illegal, stack, address, divide, given}
 use Rattle.laws.proofs.Unique.{one_outcome}
 use Rattle.arithmetic.proofs.Signed.{not_ltb}
 use Rattle.laws.proofs.Refusals.{Kind, plain, Refused, kind, refused, not_leb}
@@ -102,13 +102,13 @@ refused_with o (go t a k v) = (λ h. cc, λ h. cc)
 
 module _ (core : Core) (p : Place) where
   -- a step is refused with the first outcome that applies, and is not refused where none does
-  pub exactly : refusal_of (step_of core p) ≡ first_of (given core p)
+  pub exactly : refusal_of (step_of core p) ≡ first_given (given core p)
   unfolding step_of effect_of fetch illegal stack address divide
   exactly =
       simp (refused, not_ltb)
       (ap (cond (leb (length p.memory) p.state.pc.0) (some Fetch)) (by_byte p.memory p.state core (fetched p)))
 
-  exactly_when : (o : Outcome) {t : Bool} → is o (first_of (given core p)) ≡ t → (step_of core p ≡ refuse o) ↔ (t ≡ true)
+  exactly_when : (o : Outcome) {t : Bool} → is o (first_given (given core p)) ≡ t → (step_of core p ≡ refuse o) ↔ (t ≡ true)
   exactly_when o h = rw (← h, ← exactly) (refused_with o (step_of core p))
 
   pub fetch_given : step_of core p ≡ refuse Fetch ↔ fetch core p ≡ true

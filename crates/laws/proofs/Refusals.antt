@@ -13,7 +13,7 @@ use Rattle.machine.specs.declared.Outcome.TheVariants.{Illegal, Stack, Address, 
 use Rattle.machine.specs.Effects.{Effect, guard}
 use Rattle.machine.specs.Instructions.{Instr, Instr.IM, Instr.STORESP, Instr.LOADSP, Instr.EMULATE, Instr.ADDSP, Instr.PUSHSP, Instr.POPSP, Instr.POPPC, Instr.NOP, Instr.BREAK, Instr.ILLEGAL, Instr.PUSHSPADD, Instr.CALL, Instr.CALLPCREL, Instr.POPPCREL, Instr.PUSHPC, Instr.NEQBRANCH, Instr.EQBRANCH, Instr.unary, Instr.binary, Instr.division, Instr.load, Instr.store}
 use Rattle.machine.specs.Table.{Row, ◌⇒◌, sp, W, A, B, row, reading, doing}
-use Rattle.laws.specs.Given.{refusal_of, first_of, outside}
+use Rattle.laws.specs.Given.{refusal_of, first_given, outside}
 use Rattle.laws.proofs.Kept.{either}
 
 pub not_leb : (a b : ℕ) → not (leb a b) ≡ ltb b a
@@ -56,7 +56,7 @@ module _ (m : List ℕ) (s : State) where
       ∷ []
 
   abbrev pub Refused : Kind → Row → Type 0
-  Refused k r = refusal_of (reading m s r.reads (doing m s r.act)) ≡ first_of (tests k r)
+  Refused k r = refusal_of (reading m s r.reads (doing m s r.act)) ≡ first_given (tests k r)
 
   -- each instruction's kind, and that it is refused so
   unfoldable pub kind : (i : Instr) → (k : Kind) × Refused k (row m s i)

@@ -18,9 +18,9 @@ refusal_of (stop t) = none
 refusal_of (go t a k v) = none
 
 -- the first outcome whose test holds
-abbrev pub first_of : List (Outcome × Bool) → Option Outcome
-first_of [] = none
-first_of (g ∷ gs) = cond g.1 (some g.0) (first_of gs)
+abbrev pub first_given : List (Outcome × Bool) → Option Outcome
+first_given [] = none
+first_given (g ∷ gs) = cond g.1 (some g.0) (first_given gs)
 
 abbrev pub illegals : Core → List ℕ
 illegals Narrow = 1 ∷ 3 ∷ 14 ∷ 15 ∷ []
