@@ -23,6 +23,7 @@ fn addsp_or_illegal(image: &mut [u8], s: State, byte: u8) -> Way
 }
 
 // The other instructions: the byte is none of `families`.
+#[tactic(auto, unfolding(machine::specs::Instructions::decode, machine::specs::Instructions::below32, machine::specs::Instructions::below64, machine::specs::Table::effect_of, machine::specs::Table::row))]
 fn others(image: &mut [u8], s: State, byte: u8) -> Way
     requires ready { Ready image.old s }
     requires byte_bound { (byte < 64) × (among byte families ≡ false) }
@@ -47,6 +48,7 @@ fn others(image: &mut [u8], s: State, byte: u8) -> Way
 }
 
 // The families, and the other instructions.
+#[tactic(auto, unfolding(machine::specs::Instructions::decode, machine::specs::Instructions::below32, machine::specs::Instructions::below64))]
 pub fn below_64(image: &mut [u8], s: State, byte: u8) -> Way
     requires ready { Ready image.old s }
     requires byte_bound { byte < 64 }
