@@ -1,6 +1,6 @@
 -- A run comes on: by no step, by two ways one after the other, and by a step that is done.
 use Prim.Native.Nat.{ℕ, ◌+◌, ◌-◌, ◌<◌}
-use mathlib.Core.Path.{◌≡◌, refl, sym, ap, ◌∙◌}
+use mathlib.Core.Path.{◌≡◌, refl, sym, ◌∙◌}
 use mathlib.Core.List.{List}
 use native.Mathlib.Omega.{arith}
 use lib.ListN.{length}
@@ -10,7 +10,6 @@ use Rattle.machine.specs.declared.Answer.{Answer}
 use Rattle.machine.specs.declared.Answer.TheVariants.{Done}
 use Rattle.machine.specs.State.{Place, place}
 use Rattle.machine.specs.Table.{step_of}
-use Rattle.machine.specs.Run.{steps}
 use Rattle.machine.specs.Inner.{Ready, Carried}
 use Rattle.laws.proofs.Steps.{no_step, steps_add}
 use Rattle.laws.proofs.Kept.{done_in}
