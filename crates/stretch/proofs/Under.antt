@@ -3,8 +3,9 @@ use Prim.Native.Nat.{ℕ, ◌+◌, ◌-◌, ◌^◌, ◌<◌, ◌≤◌, min}
 use mathlib.Core.Path.{◌≡◌, refl, sym, ap, ◌∙◌}
 use mathlib.Core.Bool.{false}
 use mathlib.Core.List.{List}
-use mathlib.Core.Logic.{inl, inr}
+use mathlib.Core.Logic.{◌⊎◌, inl, inr}
 use native.Mathlib.Omega.{arith}
+use denote.Enum.Declared.{tag_of}
 use lib.Dec.{eqb}
 use lib.ListN.{length}
 use borrow.Author.Tests.{eqb-false, lt-ltb}
@@ -12,13 +13,15 @@ use Rattle.arithmetic.specs.Words.{wrap}
 use Rattle.machine.specs.declared.Core.{Core}
 use Rattle.machine.specs.declared.State.{State}
 use Rattle.machine.specs.declared.Way.{Way}
+use Rattle.machine.specs.declared.Way.TheVariants.{Next, NextFlagged, Jump, Stop, Refuse}
 use Rattle.machine.specs.declared.Answer.TheVariants.{Done, Refused}
 use Rattle.machine.specs.declared.Outcome.TheVariants.{Limit}
 use Rattle.machine.specs.State.{Place, place, fetched}
 use Rattle.machine.specs.Instructions.{decode}
-use Rattle.machine.specs.Effects.{Effect}
+use Rattle.machine.specs.Effects.{Effect, Effect.refuse, Effect.stop, Effect.go, memory_after}
 use Rattle.machine.specs.Table.{effect_of, step_of}
-use Rattle.machine.specs.Inner.{Carried, answered, Ready}
+use Rattle.machine.specs.Inner.{answer_of, Carried, answered, Ready}
+use Rattle.machine.specs.contracts.Way
 use Rattle.common_instructions.specs.Tried.{Tried}
 use Rattle.stretch.specs.Reaching.{Reaches}
 use Rattle.stretch.proofs.Reaching.{SoFar, stepped}
@@ -42,6 +45,19 @@ module _ {core : Core} {left : ℕ} {p : Place} {m : List ℕ} {s : State} {goal
   unfolding step_of
   is_step = rw (lt-ltb s.pc.0 (length m) (omega (arith, u.before_halt, u.before_last, u.last_byte)))
 
+  -- what does not go on leaves memory as it was
+  pub left_alone : ((t : State) → answered s r ≡ Done t → ⊥) → m' ≡ m
+  left_alone k = by_case d
+    where
+      quiet : (x : Effect) → answered s r ≡ answer_of s x → memory_after m x ≡ m
+      quiet (refuse o) h = refl
+      quiet (stop t) h = refl
+      quiet (go t a n v) h = absurd (k t h)
+
+      by_case : Tried m s e (eqb s.pc.0 halt) r m' → m' ≡ m
+      by_case (inl q) = q.1
+      by_case (inr q) = q.1.memory ∙ quiet e q.1.answer
+
   module _ {t : State} (h : answered s r ≡ Done t) (l : length m' ≡ length m) where
     carried : (eqb s.pc.0 halt ≡ false) × Carried m s e (answered s r) m'
     carried = by_case d
@@ -52,14 +68,14 @@ module _ {core : Core} {left : ℕ} {p : Place} {m : List ℕ} {s : State} {goal
             let z : ◌≡◌ {A = ℕ} 0 1 = cc in absurd (omega arith)
         by_case (inr q) = q
 
-    moving : s.pc.0 < halt
+    pub moving : s.pc.0 < halt
     moving = let n = eqb-false s.pc.0 halt carried.0 in omega (arith, n, u.before_halt)
 
     done : Carried m s (step_of core (place m s)) (Done t) m'
     done = rw (sym is_step, sym h) carried.1
 
     -- the step is one of those that were left
-    came : (more : ℕ) → more ≡ goal - s.pc.0 - 1 → SoFar core left p m' t more
+    pub came : (more : ℕ) → more ≡ goal - s.pc.0 - 1 → SoFar core left p m' t more
     came more k = rw k (stepped u.so_far done refl l (omega (arith, moving, u.before_goal)))
 
     pub come_to : {more : ℕ} → more ≡ goal - s.pc.0 - 1 → Ready m' t × Reaches core left p more (place m' t)
@@ -90,3 +106,20 @@ module _ {core : Core} {left : ℕ} {p : Place} {m : List ℕ} {s : State} {goal
           before_goal = omega arith;
           fits = u.fits;
         }
+
+-- with the counter moved on, fewer steps are left
+pub shorter : {core : Core} {left : ℕ} {p : Place} {m m' : List ℕ} {s t : State} {goal last halt : ℕ}
+    → Under core left p m s goal last halt → Under core left p m' t goal last halt → t.pc.0 ≡ wrap (s.pc.0 + 1)
+    → goal - t.pc.0 < goal - s.pc.0
+shorter u v e = omega (arith, e, u.before_halt, u.before_last, u.last_byte, u.so_far.ready.not_over, v.before_halt, v.before_goal)
+
+-- the ways that end a stretch go on to no state
+pub ends : (s : State) (r : Way) → (tag_of Way.the_type r ≡ 3) ⊎ (tag_of Way.the_type r ≡ 4) → (t : State) → answered s r ≡ Done t → ⊥
+ends s (Next x) (inl k) t h = omega arith
+ends s (Next x) (inr k) t h = omega arith
+ends s (NextFlagged x) (inl k) t h = omega arith
+ends s (NextFlagged x) (inr k) t h = omega arith
+ends s (Jump p x) (inl k) t h = omega arith
+ends s (Jump p x) (inr k) t h = omega arith
+ends s Stop k t h = let z : ◌≡◌ {A = ℕ} 0 1 = cc in omega arith
+ends s (Refuse o) k t h = let z : ◌≡◌ {A = ℕ} 0 1 = cc in omega arith
