@@ -12,6 +12,7 @@ use arithmetic::{BinOp, DivOp, UnOp};
 use machine::{Outcome, State, Way, Width};
 
 // ADDSP is bytes 16 to 31.
+#[tactic(auto, unfolding(machine::specs::Table::effect_of, machine::specs::Table::row))]
 fn addsp_or_illegal(image: &mut [u8], s: State, byte: u8) -> Way
     requires { Ready image.old s }
     ensures { Carried image.old s (effect_of image.old s (cond (eqb (byte / 16) 1) (ADDSP (byte % 16)) ILLEGAL)) (answered s result) image.new }
@@ -23,7 +24,7 @@ fn addsp_or_illegal(image: &mut [u8], s: State, byte: u8) -> Way
 }
 
 // The other instructions: the byte is none of `families`.
-#[tactic(auto, unfolding(machine::specs::Instructions::decode, machine::specs::Instructions::below32, machine::specs::Instructions::below64, machine::specs::Table::effect_of, machine::specs::Table::row))]
+#[tactic(auto, using(memory::proofs::Memory::none_written), unfolding(machine::specs::Instructions::decode, machine::specs::Instructions::below32, machine::specs::Instructions::below64, machine::specs::Table::effect_of, machine::specs::Table::row))]
 fn others(image: &mut [u8], s: State, byte: u8) -> Way
     requires ready { Ready image.old s }
     requires byte_bound { (byte < 64) × (among byte families ≡ false) }

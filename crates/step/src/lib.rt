@@ -21,6 +21,7 @@ fn dispatched(core: Core) -> u8
     }
 }
 
+#[tactic(auto, unfolding(machine::specs::Instructions::decode, machine::specs::Instructions::below64))]
 fn offset_or_emulate(image: &mut [u8], s: State, byte: u8) -> Way
     requires ready { Ready image.old s }
     requires le_byte { (32 ≤ byte) × (byte < 128) }
@@ -36,6 +37,7 @@ fn offset_or_emulate(image: &mut [u8], s: State, byte: u8) -> Way
 }
 
 // The instruction that the byte is.
+#[tactic(auto, unfolding(machine::specs::Instructions::decode))]
 fn carry_out(core: Core, image: &mut [u8], s: State, byte: u8) -> Way
     requires { Ready image.old s }
     ensures { Carried image.old s (effect_of image.old s (decode core byte)) (answered s result) image.new }
@@ -49,6 +51,7 @@ fn carry_out(core: Core, image: &mut [u8], s: State, byte: u8) -> Way
     offset_or_emulate(image, s, byte)
 }
 
+#[tactic(auto, unfolding(machine::specs::Table::step_of))]
 pub fn step(core: Core, image: &mut [u8], s: State) -> Answer
     requires { Ready image.old s }
     ensures { Carried image.old s (step_of core (place image.old s)) result image.new }
