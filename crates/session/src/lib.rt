@@ -20,6 +20,7 @@ const NARROW_LIMIT: u32 = microcode::STEP_BOUND * WIDE_LIMIT;
 const START: u32 = microcode::LENGTH as u32;
 
 // Whether an image of so many bytes is taken.
+#[tactic(auto, unfolding(crate::specs::Sessions::takes))]
 pub fn takes(length: usize) -> bool
     ensures { result ≡ takes length }
 {
