@@ -35,8 +35,8 @@ fn sessions(input: &[u8], wide: &mut [u8], narrow: &mut [u8], out: &mut [u8]) ->
     ensures puts { Puts (lines input.now) 0 out.old result out.new }
     ensures upper_bound { result ≤ line_room + line_room }
 {
-    bytes::copy(input, wide);
-    bytes::copy(input, narrow);
+    wide.copy_from_slice(input);
+    narrow.copy_from_slice(input);
     let next = session_line(out, 0, Core::Wide, wide);
     session_line(out, next, Core::Narrow, narrow)
 }
