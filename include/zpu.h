@@ -24,7 +24,7 @@
  * must be written before they are read again. For one step of the wide core count
  * at most 200 of the narrow one. docs/PAGE.md has the rest.
  *
- * To build: `rt staticlib zpu_c` makes target/staticlib/libzpu_c.a, for x86-64, and
+ * To build: `.ci/build zpu_c` makes target/staticlib/libzpu_c.a, for x86-64, and
  *     cc -Iinclude -o program program.c target/staticlib/libzpu_c.a
  */
 #ifndef ZPU_H
