@@ -1,10 +1,11 @@
 // Writes the microcode page: the file that a light stand loads.
 #![tactic(auto)]
 
-use libc::STDOUT_FILENO;
+use std::io;
+use std::io::Write;
 
-fn main() {
+fn main(rt: HostRuntime) -> io::Result<()> {
     let mut page = [0u8; microcode::LENGTH];
     microcode::lay(&mut page);
-    io::write_all(STDOUT_FILENO, &page);
+    rt.stdout().write_all(&page)
 }
