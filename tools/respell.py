@@ -1,5 +1,5 @@
 #!/usr/bin/env python3
-"""Brings the repository's own names to today's spelling, after /opt/rattle/port/port.py has run.
+"""Brings the repository's own names to today's spelling, after the port.py of the kit has run.
 
 usage: python3 tools/respell.py [FOLDER]
 
