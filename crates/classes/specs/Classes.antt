@@ -1,8 +1,8 @@
 -- What a class tells of a byte.
 use Rattle.std.specs.Prelude.{ℕ, ◌%◌, ◌≡◌}
 use Rattle.std.proofs.Math.Option.{Option, none, some}
-use Rattle.arithmetic.specs.declared.UnOp.TheVariants as unary-operations
-use Rattle.arithmetic.specs.declared.BinOp.TheVariants as binary-operations
+use Rattle.arithmetic.specs.declared.UnOp.TheVariants as UnaryOperations
+use Rattle.arithmetic.specs.declared.BinOp.TheVariants as BinaryOperations
 use Rattle.machine.specs.declared.Core.{Core}
 use Rattle.machine.specs.declared.Core.TheVariants.{Narrow, Wide}
 use Rattle.machine.specs.declared.Width.TheVariants.{Word}
@@ -21,15 +21,15 @@ meant core Im b = some (IM (b % 128))
 meant core Loadsp b = some (LOADSP (inverted b))
 meant core Storesp b = some (STORESP (inverted b))
 meant core Addsp b = some (ADDSP (b % 16))
-meant core Add b = some (binary binary-operations.Add)
-meant core And b = some (binary binary-operations.And)
-meant core Or b = some (binary binary-operations.Or)
-meant core Not b = some (unary unary-operations.Not)
-meant core Flip b = some (unary unary-operations.Flip)
+meant core Add b = some (binary BinaryOperations.Add)
+meant core And b = some (binary BinaryOperations.And)
+meant core Or b = some (binary BinaryOperations.Or)
+meant core Not b = some (unary UnaryOperations.Not)
+meant core Flip b = some (unary UnaryOperations.Flip)
 meant core Load b = some (load Word)
 meant core Store b = some (store Word)
 meant core Poppc b = some POPPC
-meant core Sub b = on_wide core b (some (binary binary-operations.Sub))
+meant core Sub b = on_wide core b (some (binary BinaryOperations.Sub))
 meant core Call b = on_wide core b (some CALL)
 meant core Neqbranch b = on_wide core b (some NEQBRANCH)
 meant core Emulate b = on_wide core b none

@@ -207,13 +207,13 @@ instances {c} i =
     let r : WideRun c.count (start c) w.end =
     record { none_stops = w.none_stops; all_allowed = are_allowed c.count (start c) clean (t 1 (lit< tt)) } in
     let f = demand3 c.count (start c) w.end w.start_paged r in
-    let top-clean = is_clean_lem (dirt_after c.count (start c) clean) (4 * c.sp) 4 (t 2 (lit< tt)) in
+    let top_clean = is_clean_lem (dirt_after c.count (start c) clean) (4 * c.sp) 4 (t 2 (lit< tt)) in
     record {
       wide = w;
       run = r;
       follows = f;
       narrow_top = read_alike w.end.memory f.end.memory (4 * c.sp) 4
-          (λ j l. f.alike.same_bytes (4 * c.sp + j) (top-clean j l)) ∙ w.top;
+          (λ j l. f.alike.same_bytes (4 * c.sp + j) (top_clean j l)) ∙ w.top;
     }
 
 -- `Emulated` is not empty either: LESSTHAN alone

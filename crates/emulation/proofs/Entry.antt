@@ -80,8 +80,8 @@ module _ {b n k : ℕ} {p : Place} (R : Begins b n k p) where
     outside = λ x o. refl;
     holds = λ j h.
         let l : j < n = rw length-operands at h in
-        let at-sp : base + suc k ≡ sp = omega (arith, R.room) in
-        rw at-sp (operand j (omega (arith, R.at_most_two)) ∙ sym (get_or-take n first_two j 0 l));
+        let at_sp : base + suc k ≡ sp = omega (arith, R.room) in
+        rw at_sp (operand j (omega (arith, R.at_most_two)) ∙ sym (get_or-take n first_two j 0 l));
     bytes = R.start.bytes;
   }
 

@@ -78,10 +78,10 @@ module _ {o : Straight} (member : In o rows) where
 
     arrived : Arrived o.has_value
     arrived =
-        let at-sp : base begins + suc o.depth ≡ sp = omega arith in
+        let at_sp : base begins + suc o.depth ≡ sp = omega arith in
         let hA : A m s < 2 ^ 32 = read_lt m (4 * sp) 4 start.bytes in
         let hB : B m s < 2 ^ 32 = read_lt m (4 * (sp + 1)) 4 start.bytes in
-        enters begins then jumps (code_of o) (at_vector member) (rw at-sp at (runs_to_end (base begins) c refl hA hB member))
+        enters begins then jumps (code_of o) (at_vector member) (rw at_sp at (runs_to_end (base begins) c refl hA hB member))
 
     settled : (t : Bool) → o.has_value ≡ t → step_of Wide p ≡ doing m s (act_of m s o t) → Arrived t → Settled begins q (after t)
     settled true e is a =
