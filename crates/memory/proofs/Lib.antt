@@ -1,5 +1,4 @@
 pub mod Tests
 pub mod Memory
 pub mod Lengths
-pub mod Order
 pub mod Widths

@@ -1,10 +1,14 @@
--- The three widths written out, byte by byte.
-use Prim.Native.Nat.{ℕ, ◌+◌, ◌*◌, ◌/◌, ◌%◌}
-use mathlib.Core.Path.{◌≡◌}
-use mathlib.Core.List.{List}
+-- The three widths written out: a read makes the number of its bytes, and a write puts the bytes of the number.
+use Prim.Native.Nat.{ℕ, suc, ◌+◌, ◌*◌, ◌/◌, ◌%◌, ◌^◌, ◌≤◌, ◌<◌}
+use mathlib.Core.Path.{◌≡◌, refl, sym, ◌∙◌}
+use borrow.Author.Rules.{rules}
+use mathlib.Core.List.{List, [], ◌∷◌, ◌++◌, append_assoc}
 use native.Mathlib.Nat.{add-zero}
 use native.Mathlib.Omega.{arith}
-use lib.ListN.{get_or, set}
+use lib.ListN.{get_or, set, length, take, drop}
+use lib.Seq.{sets, sets-eq, drop-drop}
+use borrow.Rule.Slice.PartMut.{put_mid}
+use Rattle.std.specs.Int.{w16, w32, to_be_bytes}
 use Rattle.memory.specs.Memory.{get_bytes, set_bytes}
 
 module _ (m : List ℕ) (a : ℕ) where
@@ -24,12 +28,16 @@ module _ (m : List ℕ) (a : ℕ) where
   unfolding set_bytes
   set_one v = rw add-zero
 
-  pub set_two : (v : ℕ) → set_bytes m a 2 v ≡ set (set m a (v / 256 % 256)) (a + 1) (v % 256)
-  unfolding set_bytes
-  set_two v = rw add-zero
+  -- bytes copied over a part are stored one after another
+  copied : (k : ℕ) (bs : List ℕ) → k ≡ length bs → a + k ≤ length m → put_mid a k m bs ≡ sets m a bs
+  copied k bs e h = rw (e, sets-eq bs m a (omega arith)) (simp (append_assoc, drop-drop))
 
-  pub set_four : (v : ℕ)
-      → set_bytes m a 4 v ≡ set
-      (set (set (set m a (v / 256 / 256 / 256 % 256)) (a + 1) (v / 256 / 256 % 256)) (a + 2) (v / 256 % 256)) (a + 3) (v % 256)
+  pub copied_two : (k : ℕ) (bs : List ℕ) (v : ℕ) → bs ≡ to_be_bytes w16 (v % 65536) → k ≡ 2 → a + k ≤ length m
+      → put_mid a k m bs ≡ set_bytes m a 2 v
   unfolding set_bytes
-  set_four v = rw add-zero
+  copied_two k bs v is e h = rw (is, e, copied 2 (to_be_bytes w16 (v % 65536)) refl (omega arith), add-zero) (search (rules, arith))
+
+  pub copied_four : (k : ℕ) (bs : List ℕ) (v : ℕ) → bs ≡ to_be_bytes w32 v → k ≡ 4 → a + k ≤ length m
+      → put_mid a k m bs ≡ set_bytes m a 4 v
+  unfolding set_bytes
+  copied_four k bs v is e h = rw (is, e, copied 4 (to_be_bytes w32 v) refl (omega arith), add-zero) (search (rules, arith))
