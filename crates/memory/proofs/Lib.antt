@@ -1,4 +1,4 @@
 pub mod Tests
 pub mod Memory
 pub mod Lengths
-pub mod Widths
+pub mod Copies

@@ -1,7 +1,7 @@
 // The machine's memory: a lent byte image, read and written at a byte address or a word index.
 #![tactic(auto)]
 
-ghost use Rattle.std.specs.Prelude.{◌≡◌, ◌+◌, ◌*◌, ◌/◌, ◌%◌, ◌<◌, ◌≤◌, length, set};
+ghost use Rattle.std.specs.Prelude.{◌≡◌, ◌+◌, ◌*◌, ◌/◌, ◌<◌, ◌≤◌, length};
 ghost use Rattle.memory.specs.Memory.{good_length, get_bytes, set_bytes, word};
 
 // The address of a byte: what the program counter is, and what LOAD and STORE take.
@@ -54,7 +54,7 @@ pub fn words(image: &[u8]) -> WordIndex
     ByteAddr(image.len() as u32).word()
 }
 
-#[tactic(auto, using(crate::proofs::Widths::one_byte))]
+#[tactic(auto, unfolding(crate::specs::Memory::get_bytes))]
 pub fn read_byte(image: &[u8], a: ByteAddr) -> u32
     requires { a.0 < length image.now }
     ensures { result ≡ get_bytes image.now a.0 1 }
@@ -62,7 +62,7 @@ pub fn read_byte(image: &[u8], a: ByteAddr) -> u32
     u32::from(image[a.0 as usize])
 }
 
-#[tactic(auto, using(crate::proofs::Widths::two_bytes))]
+#[tactic(auto, unfolding(crate::specs::Memory::get_bytes))]
 pub fn read_half(image: &[u8], a: ByteAddr) -> u32
     requires { a.0 + 1 < length image.now }
     ensures { result ≡ get_bytes image.now a.0 2 }
@@ -71,7 +71,7 @@ pub fn read_half(image: &[u8], a: ByteAddr) -> u32
     u32::from(u16::from_be_bytes([image[at], image[at + 1]]))
 }
 
-#[tactic(auto, using(crate::proofs::Widths::four_bytes))]
+#[tactic(auto, unfolding(crate::specs::Memory::get_bytes))]
 pub fn read_word(image: &[u8], w: WordIndex) -> u32
     requires { (w.0 < length image.now / 4) × (length image.now ≤ 65536) }
     ensures { result ≡ word image.now w.0 }
@@ -80,7 +80,7 @@ pub fn read_word(image: &[u8], w: WordIndex) -> u32
     u32::from_be_bytes([image[at], image[at + 1], image[at + 2], image[at + 3]])
 }
 
-#[tactic(auto, using(crate::proofs::Widths::set_one))]
+#[tactic(auto, unfolding(crate::specs::Memory::set_bytes))]
 pub fn write_byte(image: &mut [u8], a: ByteAddr, v: u32)
     requires { a.0 < length image.old }
     ensures { image.new ≡ set_bytes image.old a.0 1 v }
@@ -88,7 +88,7 @@ pub fn write_byte(image: &mut [u8], a: ByteAddr, v: u32)
     image[a.0 as usize] = (v % 256) as u8;
 }
 
-#[tactic(auto, using(crate::proofs::Widths::copied_two))]
+#[tactic(auto, using(crate::proofs::Copies::stored), unfolding(crate::specs::Memory::set_bytes))]
 pub fn write_half(image: &mut [u8], a: ByteAddr, v: u32)
     requires { a.0 + 1 < length image.old }
     ensures { image.new ≡ set_bytes image.old a.0 2 v }
@@ -97,7 +97,7 @@ pub fn write_half(image: &mut [u8], a: ByteAddr, v: u32)
     image[at..at + 2].copy_from_slice(&((v % 65536) as u16).to_be_bytes());
 }
 
-#[tactic(auto, using(crate::proofs::Widths::copied_four))]
+#[tactic(auto, using(crate::proofs::Copies::stored), unfolding(crate::specs::Memory::set_bytes))]
 pub fn write_word(image: &mut [u8], w: WordIndex, v: u32)
     requires { (w.0 < length image.old / 4) × (length image.old ≤ 65536) }
     ensures { image.new ≡ set_bytes image.old (4 * w.0) 4 v }
