@@ -1,8 +1,10 @@
 -- Every result is a word.
-use Rattle.std.proofs.Common.{ℕ, zero, suc, ◌+◌, ◌*◌, ◌/◌, ◌%◌, ◌^◌, ◌<◌, Bool, true, false, not, eqb, ltb, leb, ℤ, pos, negsuc, pow-suc, div-le_self, arith}
+use Rattle.std.proofs.Common.{ℕ, zero, suc, ◌/◌, ◌%◌, ◌^◌, ◌<◌, ◌≤◌, Bool, true, false, not, eqb, ltb, leb, pow-suc, div-le_self, arith}
+use native.Mathlib.Nat.{mul-le-mul_right}
 use lib.Bits.{and_le_l, or_lt, xor_lt}
 use lib.Signed.{lt_z, le_z, shr_z}
-use Rattle.arithmetic.specs.Words.{one_if, signed, word_of, flipped}
+use Rattle.arithmetic.specs.Words.{one_if, signed, flipped}
+use Rattle.arithmetic.proofs.Words.{word_of_lt}
 use Rattle.arithmetic.specs.Operations.{shift_factor, unary_of, binary_of}
 use Rattle.arithmetic.specs.declared.UnOp.{UnOp}
 use Rattle.arithmetic.specs.declared.UnOp.TheVariants.{Not, Flip, Neg}
@@ -13,20 +15,11 @@ one_lt : (t : Bool) → one_if t < 2 ^ 32
 one_lt true = omega arith
 one_lt false = omega arith
 
-word_of_lt : (z : ℤ) → word_of z < 2 ^ 32
-unfolding word_of
-word_of_lt (pos n) = omega arith
-word_of_lt (negsuc n) = omega arith
-
-digit_lt : (y n r : ℕ) → y < 2 → r < n → y * n + r < n * 2
-digit_lt zero n r h k = omega arith
-digit_lt (suc zero) n r h k = omega arith
-digit_lt (suc (suc y)) n r h k = absurd (omega arith)
-
 flipped_lt : (k x : ℕ) → flipped k x < 2 ^ k
 unfolding flipped
 flipped_lt zero x = omega arith
-flipped_lt (suc k) x = rw (pow-suc 2 k) (digit_lt (x % 2) (2 ^ k) (flipped k (x / 2)) (omega arith) (flipped_lt k (x / 2)))
+flipped_lt (suc k) x =
+    let digit : x % 2 ≤ 1 = omega arith in omega (arith, pow-suc 2 k, mul-le-mul_right (2 ^ k) digit, flipped_lt k (x / 2))
 
 pub unary_lt : (op : UnOp) (a : ℕ) → unary_of op a < 2 ^ 32
 unfolding unary_of

@@ -1,5 +1,3 @@
-pub mod Product
-pub mod Flipped
+pub mod Words
 pub mod Signed
-pub mod Shift
 pub mod Bounds
