@@ -28,6 +28,7 @@ pub enum Class {
 
 // No arm lists two neighbours, and `_` is left byte 0 alone: so the compiler makes one jump of this match and of the one on the
 // class, with no test before it (docs/CHANGING.md).
+#[tactic(auto, unfolding(machine::specs::Instructions::decode, machine::specs::Instructions::below32, machine::specs::Instructions::below64))]
 pub fn class_of(byte: u8) -> Class
     ensures { Agrees result byte }
 {
