@@ -1,170 +1,55 @@
 // The instructions that programs are mostly made of, told by the class of a byte. What is none of them is left alone, and so is
-// everything where the run is to pause: the way is then a refusal by LIMIT, which no instruction gives. Each arm tests for that by
-// itself, for speed (docs/CHANGING.md). Four functions hand on to one another so that none is long; the compiler makes one match
-// of theirs.
+// what is refused, and everything where the run is to pause. Each arm tests for that by itself, for speed (docs/CHANGING.md).
 #![tactic(auto)]
 
 ghost use Rattle.std.specs.Prelude.{◌≡◌, false, ◌%◌};
 ghost use Rattle.machine.specs.declared.Core.TheVariants.{Narrow};
-ghost use Rattle.machine.specs.Table.{effect_of};
 ghost use Rattle.machine.specs.Instructions.{Instr.EMULATE, decode};
-ghost use Rattle.machine.specs.Inner.{Ready};
 ghost use Rattle.classes.specs.Classes.{Agrees};
 ghost use Rattle.common_instructions.specs.Tried.{Tried};
 
 use arithmetic::{BinOp, UnOp};
 use classes::Class;
-use machine::{Core, Outcome, State, Way, Width};
+use jump_instructions::Target;
+use machine::{Core, Machine, Way, Width};
 
 // A byte from 32 to 63.
-fn by_core(core: Core, class: Class, image: &mut [u8], s: State, byte: u8) -> Way
-    requires ready { Ready image.old s }
-    requires agrees { Agrees class byte × (decode Narrow byte ≡ EMULATE (byte % 32)) }
-    ensures { Tried image.old s (effect_of image.old s (decode core byte)) false result image.new }
+fn by_core(core: Core, class: Class, m: &mut Machine, byte: u8) -> Option<Way>
+    requires { Agrees class byte × (decode Narrow byte ≡ EMULATE (byte % 32)) }
+    ensures { Tried m.old (decode core byte) false result m.new }
 {
     match core {
-        Core::Narrow => jump_instructions::emulate(image, s, byte % 32),
+        Core::Narrow => jump_instructions::emulate(m, byte % 32).ok(),
         Core::Wide => match class {
-            Class::Sub => data_instructions::binary(image, s, BinOp::Sub),
-            Class::Call => jump_instructions::call(image, s),
-            Class::Neqbranch => jump_instructions::neqbranch(image, s),
-            _ => Way::Refuse(Outcome::Limit),
+            Class::Sub => data_instructions::binary(m, BinOp::Sub).ok(),
+            Class::Call => jump_instructions::call(m, Target::Absolute).ok(),
+            Class::Neqbranch => jump_instructions::neqbranch(m).ok(),
+            _ => None,
         },
     }
 }
 
-fn from_32(core: Core, class: Class, image: &mut [u8], s: State, byte: u8, pause: bool) -> Way
-    requires ready { Ready image.old s }
-    requires agrees { Agrees class byte }
-    ensures { Tried image.old s (effect_of image.old s (decode core byte)) pause result image.new }
+pub fn carry_out(core: Core, class: Class, m: &mut Machine, byte: u8, pause: bool) -> Option<Way>
+    requires { Agrees class byte }
+    ensures { Tried m.old (decode core byte) pause result m.new }
 {
     match class {
-        Class::Sub => {
-            if pause {
-                return Way::Refuse(Outcome::Limit);
-            }
-            by_core(core, class, image, s, byte)
-        }
-        Class::Call => {
-            if pause {
-                return Way::Refuse(Outcome::Limit);
-            }
-            by_core(core, class, image, s, byte)
-        }
-        Class::Neqbranch => {
-            if pause {
-                return Way::Refuse(Outcome::Limit);
-            }
-            by_core(core, class, image, s, byte)
-        }
-        Class::Emulate => {
-            if pause {
-                return Way::Refuse(Outcome::Limit);
-            }
-            by_core(core, class, image, s, byte)
-        }
-        _ => Way::Refuse(Outcome::Limit),
-    }
-}
-
-fn moves(core: Core, class: Class, image: &mut [u8], s: State, byte: u8, pause: bool) -> Way
-    requires ready { Ready image.old s }
-    requires agrees { Agrees class byte }
-    ensures { Tried image.old s (effect_of image.old s (decode core byte)) pause result image.new }
-{
-    match class {
-        Class::Load => {
-            if pause {
-                return Way::Refuse(Outcome::Limit);
-            }
-            data_instructions::load(image, s, Width::Word)
-        }
-        Class::Store => {
-            if pause {
-                return Way::Refuse(Outcome::Limit);
-            }
-            data_instructions::store(image, s, Width::Word)
-        }
-        Class::Poppc => {
-            if pause {
-                return Way::Refuse(Outcome::Limit);
-            }
-            jump_instructions::poppc(image, s)
-        }
-        _ => from_32(core, class, image, s, byte, pause),
-    }
-}
-
-fn operations(core: Core, class: Class, image: &mut [u8], s: State, byte: u8, pause: bool) -> Way
-    requires ready { Ready image.old s }
-    requires agrees { Agrees class byte }
-    ensures { Tried image.old s (effect_of image.old s (decode core byte)) pause result image.new }
-{
-    match class {
-        Class::Add => {
-            if pause {
-                return Way::Refuse(Outcome::Limit);
-            }
-            data_instructions::binary(image, s, BinOp::Add)
-        }
-        Class::And => {
-            if pause {
-                return Way::Refuse(Outcome::Limit);
-            }
-            data_instructions::binary(image, s, BinOp::And)
-        }
-        Class::Or => {
-            if pause {
-                return Way::Refuse(Outcome::Limit);
-            }
-            data_instructions::binary(image, s, BinOp::Or)
-        }
-        Class::Not => {
-            if pause {
-                return Way::Refuse(Outcome::Limit);
-            }
-            data_instructions::unary(image, s, UnOp::Not)
-        }
-        Class::Flip => {
-            if pause {
-                return Way::Refuse(Outcome::Limit);
-            }
-            data_instructions::unary(image, s, UnOp::Flip)
-        }
-        _ => moves(core, class, image, s, byte, pause),
-    }
-}
-
-pub fn carry_out(core: Core, class: Class, image: &mut [u8], s: State, byte: u8, pause: bool) -> Way
-    requires ready { Ready image.old s }
-    requires agrees { Agrees class byte }
-    ensures { Tried image.old s (effect_of image.old s (decode core byte)) pause result image.new }
-{
-    match class {
-        Class::Im => {
-            if pause {
-                return Way::Refuse(Outcome::Limit);
-            }
-            stack_instructions::im(image, s, byte)
-        }
-        Class::Loadsp => {
-            if pause {
-                return Way::Refuse(Outcome::Limit);
-            }
-            stack_instructions::loadsp(image, s, machine::inverted(byte))
-        }
-        Class::Storesp => {
-            if pause {
-                return Way::Refuse(Outcome::Limit);
-            }
-            stack_instructions::storesp(image, s, machine::inverted(byte))
-        }
-        Class::Addsp => {
-            if pause {
-                return Way::Refuse(Outcome::Limit);
-            }
-            stack_instructions::addsp(image, s, byte % 16)
-        }
-        _ => operations(core, class, image, s, byte, pause),
+        Class::Im if !pause => stack_instructions::im(m, byte).ok(),
+        Class::Loadsp if !pause => stack_instructions::loadsp(m, machine::inverted(byte)).ok(),
+        Class::Storesp if !pause => stack_instructions::storesp(m, machine::inverted(byte)).ok(),
+        Class::Addsp if !pause => stack_instructions::addsp(m, byte % 16).ok(),
+        Class::Add if !pause => data_instructions::binary(m, BinOp::Add).ok(),
+        Class::And if !pause => data_instructions::binary(m, BinOp::And).ok(),
+        Class::Or if !pause => data_instructions::binary(m, BinOp::Or).ok(),
+        Class::Not if !pause => data_instructions::unary(m, UnOp::Not).ok(),
+        Class::Flip if !pause => data_instructions::unary(m, UnOp::Flip).ok(),
+        Class::Load if !pause => data_instructions::load(m, Width::Word).ok(),
+        Class::Store if !pause => data_instructions::store(m, Width::Word).ok(),
+        Class::Poppc if !pause => jump_instructions::poppc(m, Target::Absolute).ok(),
+        Class::Sub if !pause => by_core(core, class, m, byte),
+        Class::Call if !pause => by_core(core, class, m, byte),
+        Class::Neqbranch if !pause => by_core(core, class, m, byte),
+        Class::Emulate if !pause => by_core(core, class, m, byte),
+        _ => None,
     }
 }

@@ -1,5 +1,5 @@
 // The families, whose members differ in an operation or a width: operations on the top words, loads and stores.
-#![tactic(auto)]
+#![tactic(auto, using(std::proofs::lemmas::Bool::Decides::nat_tests), unfolding(machine::specs::Table::effect_of, machine::specs::Table::row))]
 
 mod loads;
 mod operations;

@@ -1,37 +1,33 @@
 // LOAD, LOADH and LOADB: the address is replaced by what stands there.
-ghost use Rattle.std.specs.Prelude.{◌≡◌, ◌%◌, ◌<◌, ◌≤◌, length};
+ghost use Rattle.std.specs.Prelude.{◌≡◌, ◌<◌, length};
 ghost use Rattle.memory.specs.Memory.{get_bytes};
-ghost use Rattle.machine.specs.Table.{size, aligned, effect_of};
+ghost use Rattle.machine.specs.Table.{size, aligned};
 ghost use Rattle.machine.specs.Instructions.{Instr.load};
-ghost use Rattle.machine.specs.Inner.{Ready, Carried, answered};
+ghost use Rattle.machine.specs.Machines.{Does};
 
-use machine::{Outcome, State, Way, Width};
-use memory::{ByteAddr, WordIndex};
+use machine::{Machine, Outcome, Way, Width};
+use memory::ByteAddr;
 
-fn read(image: &[u8], w: Width, a: ByteAddr) -> u32
-    requires { (a.0 < length image.now) × (length image.now ≤ 65536) × (length image.now % 4 ≡ 0) }
-    ensures { result ≡ get_bytes image.now (aligned w a.0) (size w) }
+fn read(m: &Machine, w: Width, a: ByteAddr) -> u32
+    requires { a.0 < length m.now.image.now }
+    ensures { result ≡ get_bytes m.now.image.now (aligned w a.0) (size w) }
 {
     match w {
-        Width::Word => memory::read_word(image, a.word()),
-        Width::Half => memory::read_half(image, ByteAddr(2 * (a.0 / 2))),
-        Width::Byte => memory::read_byte(image, a),
+        Width::Word => m.read(a.word()),
+        Width::Half => memory::read_half(m.image, ByteAddr(2 * (a.0 / 2))),
+        Width::Byte => memory::read_byte(m.image, a),
     }
 }
 
-pub fn load(image: &mut [u8], s: State, w: Width) -> Way
-    requires { Ready image.old s }
-    ensures { Carried image.old s (effect_of image.old s (load w)) (answered s result) image.new }
+pub fn load(m: &mut Machine, w: Width) -> Result<Way, Outcome>
+    ensures { Does m.old (load w) result m.new }
 {
-    let sp = s.sp.0;
-    if memory::words(image).0 <= sp {
-        return Way::Refuse(Outcome::Stack);
+    let top = m.word(0)?;
+    let a = m.read(top);
+    if m.image.len() <= a as usize {
+        return Err(Outcome::Address);
     }
-    let a = memory::read_word(image, s.sp);
-    if image.len() <= a as usize {
-        return Way::Refuse(Outcome::Address);
-    }
-    let v = read(image, w, ByteAddr(a));
-    memory::write_word(image, s.sp, v);
-    Way::Next(WordIndex(sp))
+    let v = read(m, w, ByteAddr(a));
+    m.write(top, v);
+    Ok(Way::Next(top))
 }

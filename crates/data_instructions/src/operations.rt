@@ -1,52 +1,40 @@
 // What changes the top, what takes two words and leaves one, and DIV and MOD, which alone refuse a divisor.
-ghost use Rattle.machine.specs.Table.{effect_of};
 ghost use Rattle.machine.specs.Instructions.{Instr.unary, Instr.binary, Instr.division};
-ghost use Rattle.machine.specs.Inner.{Ready, Carried, answered};
+ghost use Rattle.machine.specs.Machines.{Does};
 
 use arithmetic::{BinOp, DivOp, UnOp};
-use machine::{Outcome, State, Way};
-use memory::WordIndex;
+use machine::{Machine, Outcome, Way};
 
-pub fn unary(image: &mut [u8], s: State, op: UnOp) -> Way
-    requires { Ready image.old s }
-    ensures { Carried image.old s (effect_of image.old s (unary op)) (answered s result) image.new }
+pub fn unary(m: &mut Machine, op: UnOp) -> Result<Way, Outcome>
+    ensures { Does m.old (unary op) result m.new }
 {
-    let sp = s.sp.0;
-    if memory::words(image).0 <= sp {
-        return Way::Refuse(Outcome::Stack);
-    }
-    let a = memory::read_word(image, s.sp);
-    memory::write_word(image, s.sp, arithmetic::unary(op, a));
-    Way::Next(WordIndex(sp))
+    let top = m.word(0)?;
+    let a = m.read(top);
+    m.write(top, arithmetic::unary(op, a));
+    Ok(Way::Next(top))
 }
 
-pub fn binary(image: &mut [u8], s: State, op: BinOp) -> Way
-    requires { Ready image.old s }
-    ensures { Carried image.old s (effect_of image.old s (binary op)) (answered s result) image.new }
+pub fn binary(m: &mut Machine, op: BinOp) -> Result<Way, Outcome>
+    ensures { Does m.old (binary op) result m.new }
 {
-    let second = s.sp.0 + 1;
-    if memory::words(image).0 <= second {
-        return Way::Refuse(Outcome::Stack);
-    }
-    let a = memory::read_word(image, s.sp);
-    let b = memory::read_word(image, WordIndex(second));
-    memory::write_word(image, WordIndex(second), arithmetic::binary(op, a, b));
-    Way::Next(WordIndex(second))
+    let second = m.word(1)?;
+    let top = m.state.sp;
+    let a = m.read(top);
+    let b = m.read(second);
+    m.write(second, arithmetic::binary(op, a, b));
+    Ok(Way::Next(second))
 }
 
-pub fn division(image: &mut [u8], s: State, op: DivOp) -> Way
-    requires { Ready image.old s }
-    ensures { Carried image.old s (effect_of image.old s (division op)) (answered s result) image.new }
+pub fn division(m: &mut Machine, op: DivOp) -> Result<Way, Outcome>
+    ensures { Does m.old (division op) result m.new }
 {
-    let second = s.sp.0 + 1;
-    if memory::words(image).0 <= second {
-        return Way::Refuse(Outcome::Stack);
-    }
-    let a = memory::read_word(image, s.sp);
+    let second = m.word(1)?;
+    let top = m.state.sp;
+    let a = m.read(top);
     if a == 0 {
-        return Way::Refuse(Outcome::Divide);
+        return Err(Outcome::Divide);
     }
-    let b = memory::read_word(image, WordIndex(second));
-    memory::write_word(image, WordIndex(second), arithmetic::division(op, a, b));
-    Way::Next(WordIndex(second))
+    let b = m.read(second);
+    m.write(second, arithmetic::division(op, a, b));
+    Ok(Way::Next(second))
 }

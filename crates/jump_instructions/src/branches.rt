@@ -1,40 +1,31 @@
 // NEQBRANCH and EQBRANCH.
-ghost use Rattle.machine.specs.Table.{effect_of};
 ghost use Rattle.machine.specs.Instructions.{Instr.NEQBRANCH, Instr.EQBRANCH};
-ghost use Rattle.machine.specs.Inner.{Ready, Carried, answered};
+ghost use Rattle.machine.specs.Machines.{Does};
 
-use crate::jumps;
-use machine::{Outcome, State, Way};
+use crate::target::Target;
+use machine::{Machine, Outcome, Way};
 use memory::WordIndex;
 
-pub fn neqbranch(image: &[u8], s: State) -> Way
-    requires { Ready image.now s }
-    ensures { Carried image.now s (effect_of image.now s NEQBRANCH) (answered s result) image.now }
+pub fn neqbranch(m: &Machine) -> Result<Way, Outcome>
+    ensures { Does m.now NEQBRANCH result m.now }
 {
-    let sp = s.sp.0;
-    if memory::words(image).0 <= sp + 1 {
-        return Way::Refuse(Outcome::Stack);
+    let second = m.word(1)?;
+    let popped = WordIndex(second.0 + 1);
+    if m.read(second) == 0 {
+        return Ok(Way::Next(popped));
     }
-    let a = memory::read_word(image, s.sp);
-    let b = memory::read_word(image, WordIndex(sp + 1));
-    if b == 0 {
-        return Way::Next(WordIndex(sp + 2));
-    }
-    Way::Jump(jumps::relative(s, a), WordIndex(sp + 2))
+    let a = m.read(m.state.sp);
+    Ok(Way::Jump(Target::Relative.of(m.state, a), popped))
 }
 
-pub fn eqbranch(image: &[u8], s: State) -> Way
-    requires { Ready image.now s }
-    ensures { Carried image.now s (effect_of image.now s EQBRANCH) (answered s result) image.now }
+pub fn eqbranch(m: &Machine) -> Result<Way, Outcome>
+    ensures { Does m.now EQBRANCH result m.now }
 {
-    let sp = s.sp.0;
-    if memory::words(image).0 <= sp + 1 {
-        return Way::Refuse(Outcome::Stack);
+    let second = m.word(1)?;
+    let popped = WordIndex(second.0 + 1);
+    if m.read(second) != 0 {
+        return Ok(Way::Next(m.state.sp));
     }
-    let a = memory::read_word(image, s.sp);
-    let b = memory::read_word(image, WordIndex(sp + 1));
-    if b == 0 {
-        return Way::Jump(jumps::relative(s, a), WordIndex(sp + 2));
-    }
-    Way::Next(WordIndex(sp))
+    let a = m.read(m.state.sp);
+    Ok(Way::Jump(Target::Relative.of(m.state, a), popped))
 }

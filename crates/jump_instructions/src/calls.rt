@@ -1,34 +1,29 @@
-// CALL and CALLPCREL.
-ghost use Rattle.machine.specs.Table.{effect_of};
-ghost use Rattle.machine.specs.Instructions.{Instr.CALL, Instr.CALLPCREL};
-ghost use Rattle.machine.specs.Inner.{Ready, Carried, answered};
+// CALL and CALLPCREL, and EMULATE.
+ghost use Rattle.std.specs.Prelude.{◌<◌};
+ghost use Rattle.machine.specs.Instructions.{Instr.EMULATE};
+ghost use Rattle.machine.specs.Machines.{Does};
+ghost use Rattle.jump_instructions.specs.Targets.{calling};
 
-use crate::jumps;
-use machine::{Outcome, State, Way};
-use memory::{ByteAddr, WordIndex};
+use crate::target::Target;
+use machine::{Machine, Outcome, Way};
+use memory::ByteAddr;
 
-pub fn call(image: &mut [u8], s: State) -> Way
-    requires { Ready image.old s }
-    ensures { Carried image.old s (effect_of image.old s CALL) (answered s result) image.new }
+pub fn call(m: &mut Machine, target: Target) -> Result<Way, Outcome>
+    ensures { Does m.old (calling target) result m.new }
 {
-    let sp = s.sp.0;
-    if memory::words(image).0 <= sp {
-        return Way::Refuse(Outcome::Stack);
-    }
-    let a = memory::read_word(image, s.sp);
-    memory::write_word(image, s.sp, s.following().0);
-    Way::Jump(ByteAddr(a), WordIndex(sp))
+    let top = m.word(0)?;
+    let a = m.read(top);
+    let s = m.state;
+    m.write(top, s.following().0);
+    Ok(Way::Jump(target.of(s, a), top))
 }
 
-pub fn callpcrel(image: &mut [u8], s: State) -> Way
-    requires { Ready image.old s }
-    ensures { Carried image.old s (effect_of image.old s CALLPCREL) (answered s result) image.new }
+// The vector of the k-th byte from 32 on.
+pub fn emulate(m: &mut Machine, k: u8) -> Result<Way, Outcome>
+    requires { k < 32 }
+    ensures { Does m.old (EMULATE k) result m.new }
 {
-    let sp = s.sp.0;
-    if memory::words(image).0 <= sp {
-        return Way::Refuse(Outcome::Stack);
-    }
-    let a = memory::read_word(image, s.sp);
-    memory::write_word(image, s.sp, s.following().0);
-    Way::Jump(jumps::relative(s, a), WordIndex(sp))
+    let after = m.state.following();
+    let sp = m.push(after.0)?;
+    Ok(Way::Jump(ByteAddr(32 * u32::from(k)), sp))
 }

@@ -1,11 +1,13 @@
 -- What the inner functions ask and promise.
-use Rattle.std.specs.Prelude.{◌≡◌, ℕ, ◌+◌, ◌/◌, ◌%◌, ◌≤◌, List, length}
+use Rattle.std.specs.Prelude.{◌≡◌, ℕ, ◌+◌, ◌/◌, ◌%◌, ◌≤◌, List, length, Ok, Err}
+use Rattle.std.specs.declared.result.Result.{Result}
 use Rattle.machine.specs.declared.State.{State}
 use Rattle.machine.specs.declared.Way.{Way}
-use Rattle.machine.specs.declared.Way.TheVariants.{Next, NextFlagged, Jump, Stop, Refuse}
+use Rattle.machine.specs.declared.Way.TheVariants.{Next, NextFlagged, Jump, Stop}
 use Rattle.machine.specs.declared.Answer.{Answer}
 use Rattle.machine.specs.declared.Answer.TheVariants.{Done, Broke, Refused}
 use Rattle.machine.specs.declared.Finish.{Finish}
+use Rattle.machine.specs.declared.Outcome.{Outcome}
 use Rattle.machine.specs.declared.Outcome.TheVariants.{Limit, Break}
 use Rattle.machine.specs.State.{next, next_flagged, jump}
 use Rattle.machine.specs.Effects.{Effect, Effect.refuse, Effect.stop, Effect.go, memory_after}
@@ -27,13 +29,13 @@ pub record Carried (m : List ℕ) (s : State) (e : Effect) (r : Answer) (m' : Li
   pub answer : r ≡ answer_of s e
   pub memory : m' ≡ memory_after m e
 
--- the answer of a step from s whose instruction goes by a way
-abbrev pub answered : State → Way → Answer
-answered s (Next sp) = Done (next s sp.0)
-answered s (NextFlagged sp) = Done (next_flagged s sp.0)
-answered s (Jump pc sp) = Done (jump s pc.0 sp.0)
-answered s Stop = Broke (next s s.sp.0)
-answered s (Refuse o) = Refused s o
+-- the answer of a step from s whose instruction goes by a way, or is refused
+abbrev pub answered : State → Result Way Outcome → Answer
+answered s (Ok (Next sp)) = Done (next s sp.0)
+answered s (Ok (NextFlagged sp)) = Done (next_flagged s sp.0)
+answered s (Ok (Jump pc sp)) = Done (jump s pc.0 sp.0)
+answered s (Ok Stop) = Broke (next s s.sp.0)
+answered s (Err o) = Refused s o
 
 -- how a run would end by an answer, n steps before it; `Done` ends none
 abbrev pub finish_of : Answer → ℕ → Finish

@@ -5,3 +5,4 @@ pub mod Effects
 pub mod Table
 pub mod Run
 pub mod Inner
+pub mod Machines

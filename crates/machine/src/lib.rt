@@ -1,12 +1,15 @@
 // What the machine is made of: its two cores, its state, the outcomes of a run, the way of an instruction and the answer of a step.
 #![tactic(auto)]
 
+mod machine;
+
 ghost use Rattle.std.specs.Prelude.{◌≡◌, ◌+◌};
 ghost use Rattle.arithmetic.specs.Words.{wrap};
 ghost use Rattle.machine.specs.State.{next, next_flagged, jump};
 ghost use Rattle.machine.specs.Instructions.{inverted};
 ghost use Rattle.machine.specs.Inner.{answered};
 
+pub use machine::Machine;
 use memory::{ByteAddr, WordIndex};
 
 #[derive(Clone, Copy)]
@@ -48,7 +51,7 @@ impl State {
     pub fn following(self) -> ByteAddr
         ensures { result ≡ record { 0 = wrap (self.pc.0 + 1) } }
     {
-        ByteAddr(std::num::wrapping_add_u32(self.pc.0, 1))
+        ByteAddr(self.pc.0.wrapping_add(1))
     }
 
     pub fn next(self, sp: WordIndex) -> State
@@ -81,29 +84,28 @@ impl State {
         }
     }
 
-    // What a step answers whose instruction goes by `way`.
-    pub fn answer(self, way: Way) -> Answer
+    // What a step answers whose instruction goes by `way`, or is refused.
+    pub fn answer(self, way: Result<Way, Outcome>) -> Answer
         ensures { result ≡ answered self way }
     {
         let broke = self.next(self.sp);
         match way {
-            Way::Next(to) => Answer::Done(self.next(to)),
-            Way::NextFlagged(to) => Answer::Done(self.next_flagged(to)),
-            Way::Jump(pc, to) => Answer::Done(self.jump(pc, to)),
-            Way::Stop => Answer::Broke(broke),
-            Way::Refuse(o) => Answer::Refused(self, o),
+            Ok(Way::Next(to)) => Answer::Done(self.next(to)),
+            Ok(Way::NextFlagged(to)) => Answer::Done(self.next_flagged(to)),
+            Ok(Way::Jump(pc, to)) => Answer::Done(self.jump(pc, to)),
+            Ok(Way::Stop) => Answer::Broke(broke),
+            Err(o) => Answer::Refused(self, o),
         }
     }
 }
 
-// How an instruction goes: by which of the state's methods and with which stack pointer, by BREAK, or not at all, and why.
+// How an instruction goes that is not refused: by which of the state's methods and with which stack pointer, or by BREAK.
 #[derive(Clone, Copy)]
 pub enum Way {
     Next(WordIndex),
     NextFlagged(WordIndex),
     Jump(ByteAddr, WordIndex),
     Stop,
-    Refuse(Outcome),
 }
 
 // What a step answers: the next state, the state after a BREAK, or the state it refused to leave and why.

@@ -1,52 +1,43 @@
 // IM: with the flag clear the seven bits are pushed, sign-extended; with it set they are joined to the top.
 ghost use Rattle.std.specs.Prelude.{◌≡◌, ◌+◌, ◌*◌, ◌%◌, ◌<◌, true};
 ghost use Rattle.arithmetic.specs.Words.{wrap};
-ghost use Rattle.machine.specs.Table.{effect_of, extended};
+ghost use Rattle.machine.specs.Table.{extended};
 ghost use Rattle.machine.specs.Instructions.{Instr.IM};
-ghost use Rattle.machine.specs.Inner.{Ready, Carried, answered};
+ghost use Rattle.machine.specs.Machines.{Does};
 
-use crate::pushes;
-use crate::pushes::Then;
-use machine::{Outcome, State, Way};
-use memory::WordIndex;
+use machine::{Machine, Outcome, Way};
 
 // Seven bits sign-extended.
 fn extended(v: u32) -> u32
     requires { v < 128 }
     ensures { result ≡ extended v }
 {
-    std::num::wrapping_sub_u32((v + 64) % 128, 64)
+    ((v + 64) % 128).wrapping_sub(64)
 }
 
 fn joined(a: u32, v: u32) -> u32
     ensures { result ≡ wrap (a * 128 + v) }
 {
-    ((a as u64 * 128 + v as u64) % 4294967296) as u32
+    a.wrapping_mul(128).wrapping_add(v)
 }
 
-fn continued(image: &mut [u8], s: State, v: u32) -> Way
-    requires ready { Ready image.old s }
-    requires flag_value { s.flag ≡ true }
-    ensures { Carried image.old s (effect_of image.old s (IM v)) (answered s result) image.new }
+fn continued(m: &mut Machine, v: u32) -> Result<Way, Outcome>
+    requires { m.old.state.flag ≡ true }
+    ensures { Does m.old (IM v) result m.new }
 {
-    let sp = s.sp.0;
-    if memory::words(image).0 <= sp {
-        return Way::Refuse(Outcome::Stack);
-    }
-    let a = memory::read_word(image, s.sp);
-    memory::write_word(image, s.sp, joined(a, v));
-    Way::NextFlagged(WordIndex(sp))
+    let top = m.word(0)?;
+    let a = m.read(top);
+    m.write(top, joined(a, v));
+    Ok(Way::NextFlagged(top))
 }
 
-pub fn im(image: &mut [u8], s: State, byte: u8) -> Way
-    requires { Ready image.old s }
-    ensures { Carried image.old s (effect_of image.old s (IM (byte % 128))) (answered s result) image.new }
+pub fn im(m: &mut Machine, byte: u8) -> Result<Way, Outcome>
+    ensures { Does m.old (IM (byte % 128)) result m.new }
 {
-    let v = byte as u32 % 128;
-    let flag = s.flag;
-    if flag {
-        continued(image, s, v)
+    let v = u32::from(byte % 128);
+    if m.state.flag {
+        continued(m, v)
     } else {
-        pushes::push(image, s, Then::NextFlagged, extended(v))
+        Ok(Way::NextFlagged(m.push(extended(v))?))
     }
 }

@@ -1,13 +1,11 @@
-// The instructions that move words of the stack or its pointer, each under its own name: the image is written in place, and the
-// way is given by value.
-#![tactic(auto)]
+// The instructions that move words of the stack or its pointer, each under its own name: memory is written in place, and the way
+// is given by value.
+#![tactic(auto, using(std::proofs::lemmas::Bool::Decides::nat_tests, memory::proofs::Memory::none_written), unfolding(machine::specs::Table::effect_of, machine::specs::Table::row))]
 
 mod immediate;
 mod offsets;
 mod pointer;
-mod pushes;
 
 pub use immediate::im;
 pub use offsets::{addsp, loadsp, storesp};
-pub use pointer::{popsp, pushspadd};
-pub use pushes::{Then, push, pushpc, pushsp};
+pub use pointer::{popsp, pushpc, pushsp, pushspadd};

@@ -1,28 +1,35 @@
-// POPSP and PUSHSPADD.
+// PUSHSP, PUSHPC, POPSP and PUSHSPADD.
 ghost use Rattle.std.specs.Prelude.{◌≡◌, ◌+◌, ◌*◌, ◌≤◌};
 ghost use Rattle.arithmetic.specs.Words.{wrap};
-ghost use Rattle.machine.specs.Table.{effect_of};
-ghost use Rattle.machine.specs.Instructions.{Instr.POPSP, Instr.PUSHSPADD};
-ghost use Rattle.machine.specs.Inner.{Ready, Carried, answered};
+ghost use Rattle.machine.specs.Instructions.{Instr.PUSHSP, Instr.PUSHPC, Instr.POPSP, Instr.PUSHSPADD};
+ghost use Rattle.machine.specs.Machines.{Does};
 
-use machine::{Outcome, State, Way};
+use machine::{Machine, Outcome, Way};
 use memory::{ByteAddr, WordIndex};
 
-pub fn popsp(image: &[u8], s: State) -> Way
-    requires { Ready image.now s }
-    ensures { Carried image.now s (effect_of image.now s POPSP) (answered s result) image.now }
+pub fn pushsp(m: &mut Machine) -> Result<Way, Outcome>
+    ensures { Does m.old PUSHSP result m.new }
 {
-    let sp = s.sp.0;
-    let words = memory::words(image).0;
-    if words <= sp {
-        return Way::Refuse(Outcome::Stack);
+    let sp = m.state.sp;
+    Ok(Way::Next(m.push(sp.byte().0)?))
+}
+
+pub fn pushpc(m: &mut Machine) -> Result<Way, Outcome>
+    ensures { Does m.old PUSHPC result m.new }
+{
+    let pc = m.state.pc;
+    Ok(Way::Next(m.push(pc.0)?))
+}
+
+pub fn popsp(m: &Machine) -> Result<Way, Outcome>
+    ensures { Does m.now POPSP result m.now }
+{
+    let top = m.word(0)?;
+    let to = ByteAddr(m.read(top)).word();
+    if memory::words(m.image).0 < to.0 {
+        return Err(Outcome::Stack);
     }
-    let to = ByteAddr(memory::read_word(image, s.sp)).word();
-    let at = to.0;
-    if words < at {
-        return Way::Refuse(Outcome::Stack);
-    }
-    Way::Next(to)
+    Ok(Way::Next(to))
 }
 
 // Four times the sum of a word index and a word.
@@ -30,18 +37,14 @@ fn four_times(w: WordIndex, a: u32) -> u32
     requires { w.0 ≤ 16384 }
     ensures { result ≡ wrap (4 * w.0 + 4 * a) }
 {
-    ((w.byte().0 as u64 + 4 * (a as u64)) % 4294967296) as u32
+    w.byte().0.wrapping_add(a.wrapping_mul(4))
 }
 
-pub fn pushspadd(image: &mut [u8], s: State) -> Way
-    requires { Ready image.old s }
-    ensures { Carried image.old s (effect_of image.old s PUSHSPADD) (answered s result) image.new }
+pub fn pushspadd(m: &mut Machine) -> Result<Way, Outcome>
+    ensures { Does m.old PUSHSPADD result m.new }
 {
-    let sp = s.sp.0;
-    if memory::words(image).0 <= sp {
-        return Way::Refuse(Outcome::Stack);
-    }
-    let a = memory::read_word(image, s.sp);
-    memory::write_word(image, s.sp, four_times(s.sp, a));
-    Way::Next(WordIndex(sp))
+    let top = m.word(0)?;
+    let a = m.read(top);
+    m.write(top, four_times(top, a));
+    Ok(Way::Next(top))
 }

@@ -3,13 +3,12 @@
 
 ghost use Rattle.std.specs.Prelude.{◌≡◌, ◌<◌, ◌≤◌};
 ghost use Rattle.machine.specs.declared.Core.TheVariants.{Narrow};
-ghost use Rattle.machine.specs.State.{place};
-ghost use Rattle.machine.specs.Table.{effect_of, step_of};
+ghost use Rattle.machine.specs.Table.{step_of};
 ghost use Rattle.machine.specs.Instructions.{decode};
-ghost use Rattle.machine.specs.Inner.{Ready, Carried, answered};
+ghost use Rattle.machine.specs.Machines.{at, Carries, Does};
 ghost use Rattle.step.specs.Dispatched.{dispatched};
 
-use machine::{Answer, Core, Outcome, State, Way};
+use machine::{Answer, Core, Machine, Outcome, Way};
 
 // `dispatch` tells the bytes below this. From it on they are EMULATE, STORESP, LOADSP and IM.
 fn dispatched(core: Core) -> u8
@@ -22,44 +21,42 @@ fn dispatched(core: Core) -> u8
 }
 
 #[tactic(auto, unfolding(machine::specs::Instructions::decode, machine::specs::Instructions::below64))]
-fn offset_or_emulate(image: &mut [u8], s: State, byte: u8) -> Way
-    requires ready { Ready image.old s }
-    requires le_byte { (32 ≤ byte) × (byte < 128) }
-    ensures { Carried image.old s (effect_of image.old s (decode Narrow byte)) (answered s result) image.new }
+fn offset_or_emulate(m: &mut Machine, byte: u8) -> Result<Way, Outcome>
+    requires { (32 ≤ byte) × (byte < 128) }
+    ensures { Does m.old (decode Narrow byte) result m.new }
 {
     if 96 <= byte {
-        return stack_instructions::loadsp(image, s, machine::inverted(byte));
+        return stack_instructions::loadsp(m, machine::inverted(byte));
     }
     if 64 <= byte {
-        return stack_instructions::storesp(image, s, machine::inverted(byte));
+        return stack_instructions::storesp(m, machine::inverted(byte));
     }
-    jump_instructions::emulate(image, s, byte % 32)
+    jump_instructions::emulate(m, byte % 32)
 }
 
 // The instruction that the byte is.
 #[tactic(auto, unfolding(machine::specs::Instructions::decode))]
-fn carry_out(core: Core, image: &mut [u8], s: State, byte: u8) -> Way
-    requires { Ready image.old s }
-    ensures { Carried image.old s (effect_of image.old s (decode core byte)) (answered s result) image.new }
+fn carry_out(core: Core, m: &mut Machine, byte: u8) -> Result<Way, Outcome>
+    ensures { Does m.old (decode core byte) result m.new }
 {
     if 128 <= byte {
-        return stack_instructions::im(image, s, byte);
+        return stack_instructions::im(m, byte);
     }
     if byte < dispatched(core) {
-        return dispatch::below_64(image, s, byte);
+        return dispatch::below_64(m, byte);
     }
-    offset_or_emulate(image, s, byte)
+    offset_or_emulate(m, byte)
 }
 
 #[tactic(auto, unfolding(machine::specs::Table::step_of))]
-pub fn step(core: Core, image: &mut [u8], s: State) -> Answer
-    requires { Ready image.old s }
-    ensures { Carried image.old s (step_of core (place image.old s)) result image.new }
+pub fn step(core: Core, m: &mut Machine) -> Answer
+    ensures { Carries m.old (step_of core (at m.old)) result m.new }
 {
+    let s = m.state;
     let pc = s.pc.0 as usize;
-    if image.len() <= pc {
+    if m.image.len() <= pc {
         return Answer::Refused(s, Outcome::Fetch);
     }
-    let byte = image[pc];
-    s.answer(carry_out(core, image, s, byte))
+    let byte = m.image[pc];
+    s.answer(carry_out(core, m, byte))
 }

@@ -3,11 +3,12 @@
 
 ghost use Rattle.std.specs.Prelude.{◌≡◌, ◌+◌, ◌^◌, ◌<◌};
 ghost use Rattle.machine.specs.Outcomes.{number};
-ghost use Rattle.machine.specs.Inner.{Ready, finish_of};
+ghost use Rattle.machine.specs.Inner.{finish_of};
+ghost use Rattle.machine.specs.Machines.{at};
 ghost use Rattle.machine.specs.State.{place};
 ghost use Rattle.machine.specs.Run.{run_from, handed_back, Runs};
 
-use machine::{Answer, Core, Finish, Outcome, State};
+use machine::{Answer, Core, Finish, Machine, Outcome, State};
 
 // How a run ends by an answer, n steps before it.
 fn ended_by(answer: Answer, n: u32) -> Finish
@@ -35,29 +36,26 @@ fn ended_by(answer: Answer, n: u32) -> Finish
 
 // The steps in order, counted, to the first stop: one by `step`, which takes any byte and alone can end a run before its limit, and
 // then a stretch of the common instructions, in turns. The step comes first, so that a call with limit 1 is done with it alone.
-fn run_from(core: Core, image: &mut [u8], start: State, limit: u32) -> Finish
-    requires { Ready image.old start }
-    ensures { handed_back result image.new ≡ run_from core limit 0 (place image.old start) }
+fn run_from(core: Core, m: &mut Machine, limit: u32) -> Finish
+    ensures end { handed_back result m.new.image.now ≡ run_from core limit 0 (at m.old) }
+    ensures image { m.new.image.ghost_name ≡ m.old.image.ghost_name }
 {
-    let mut s = start;
     let mut left = limit;
     while 0 < left {
-        let answer = step::step(core, image, s);
+        let answer = step::step(core, m);
         let Answer::Done(next) = answer else {
             return ended_by(answer, limit - left);
         };
-        s = next;
+        m.state = next;
         left -= 1;
         if 0 < left {
-            let stand = stretch::stretch(core, image, s, left);
-            s = stand.state;
-            left = stand.left;
+            left = stretch::stretch(core, m, left);
         }
     }
     Finish {
         outcome: Outcome::Limit,
         steps: limit,
-        state: s,
+        state: m.state,
     }
 }
 
@@ -73,7 +71,11 @@ pub fn run(core: Core, image: &mut [u8], start: State, limit: u32) -> Finish
                 state: start,
             };
         }
-        return run_from(core, image, start, limit);
+        let mut machine = Machine {
+            image,
+            state: start,
+        };
+        return run_from(core, &mut machine, limit);
     }
     Finish {
         outcome: Outcome::Image,
