@@ -1,13 +1,12 @@
 -- What is promised of the common instructions.
-use Rattle.std.specs.Prelude.{ℕ, ◌≡◌, Bool, false, List, ◌⊎◌}
-use Rattle.machine.specs.declared.State.{State}
+use Rattle.std.specs.Prelude.{◌≡◌, Bool, false, None, Some, Ok, ◌⊎◌}
+use Rattle.std.specs.declared.option.Option.{Option}
 use Rattle.machine.specs.declared.Way.{Way}
-use Rattle.machine.specs.declared.Way.TheVariants.{Refuse}
-use Rattle.machine.specs.declared.Outcome.TheVariants.{Limit}
-use Rattle.machine.specs.Effects.{Effect}
-use Rattle.machine.specs.Inner.{Carried, answered}
+use Rattle.machine.specs.declared.machine.Machine.{Machine}
+use Rattle.machine.specs.Instructions.{Instr}
+use Rattle.machine.specs.Machines.{With, Does}
 
--- e was carried out, or nothing was done and the way is a refusal by LIMIT, which no instruction gives: so it is wherever the run
--- is to pause
-abbrev pub Tried : List ℕ → State → Effect → Bool → Way → List ℕ → Type 0
-Tried m s e pause r m' = ((r ≡ Refuse Limit) × (m' ≡ m)) ⊎ ((pause ≡ false) × Carried m s e (answered s r) m')
+-- the instruction i was carried out and goes by the way, or nothing was done: so it is wherever the run is to pause
+abbrev pub Tried : Machine → Instr → Bool → Option Way → Machine → Type 0
+Tried p i pause None q = With p p.image.now q
+Tried p i pause (Some way) q = (pause ≡ false) × Does p i (Ok way) q

@@ -25,7 +25,8 @@ fn addsp_or_illegal(m: &mut Machine, byte: u8) -> Result<Way, Outcome>
 // The other instructions: the byte is none of `families`.
 #[tactic(auto, using(memory::proofs::Memory::none_written), unfolding(machine::specs::Instructions::decode, machine::specs::Instructions::below32, machine::specs::Instructions::below64, machine::specs::Table::effect_of, machine::specs::Table::row))]
 fn others(m: &mut Machine, byte: u8) -> Result<Way, Outcome>
-    requires { (byte < 64) × (among byte families ≡ false) }
+    requires below_64 { byte < 64 }
+    requires no_family { among byte families ≡ false }
     ensures { Does m.old (decode Wide byte) result m.new }
 {
     match byte {
