@@ -22,8 +22,7 @@ pub fn stretch(core: Core, m: &mut Machine, left: u32) -> u32
         let pc = m.state.pc.0 as usize;
         let byte = m.image[pc];
         let class = classes::class_of(byte);
-        let way = common_instructions::carry_out(core, class, m, byte, pc == halt);
-        match way {
+        match common_instructions::carry_out(core, class, m, byte, pc == halt) {
             Some(Way::Next(sp)) => {
                 m.state = m.state.next(sp);
             }

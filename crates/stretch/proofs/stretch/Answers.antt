@@ -1,55 +1,69 @@
-use Rattle.std.proofs.Common.{◌+◌, ◌-◌, refl, ap, arith}
-use Rattle.machine.specs.declared.Way.{Way}
-use Rattle.machine.specs.Inner.{answered}
+use Rattle.std.proofs.Common.{◌+◌, ◌-◌, refl, ◌∙◌, arith}
 use Rattle.stretch.proofs.Reaching.{none_done}
-use Rattle.stretch.proofs.Under.{moved_on, come_to, jumped}
+use Rattle.stretch.proofs.Under.{moved_on, came, jumped}
 use Rattle.stretch.proofs.stretch.Goals as goal
 
-pub returns-then-image-s : goal.returns-then-image-s
-returns-then-image-s c =
-    let a = c.args in
-    rw c.here.ensures (c.requires, none_done (a.start.pc.0 + a.left - a.start.pc.0) (omega arith))
+pub returns-then-m : goal.returns-then-m
+returns-then-m c = record { reaches = none_done c.args.left refl; image = refl }
 
 pub loop-sp-init : goal.loop-sp-init
 loop-sp-init c =
     let a = c.args in
-    record {
-      so_far = record {
-        ready = c.requires;
-        reaches = none_done (a.start.pc.0 + a.left - a.start.pc.0) (omega arith);
-        same_length = refl;
-      };
-      last_byte = omega arith;
-      before_halt = omega arith;
-      before_last = omega arith;
-      before_goal = omega arith;
-      fits = omega arith;
-    }
+    (
+      record {
+        so_far = record {
+          ready = a.m.now.ready;
+          reaches = none_done (a.m.now.state.pc.0 + a.left - a.m.now.state.pc.0) (omega arith);
+        };
+        last_byte = omega arith;
+        before_halt = omega arith;
+        before_last = omega arith;
+        before_goal = omega arith;
+        fits = omega arith;
+      },
+      refl,
+    )
 
-pub loop-sp-preserved-in-Next : goal.loop-sp-preserved-in-Next
-loop-sp-preserved-in-Next c =
-    let l = c.loop-sp in
-    let d = c.carry_out-way in
-    rw c.next-s.ensures (moved_on l.invariant d.ensures (ap (λ (w : Way). answered l.s w) c.in-Next.is) d.auto.image refl)
+pub invariant_of-m : goal.invariant_of-m
+invariant_of-m c =
+    let d = rw c.in-Some-Next.field-0-is at c.in-Some-Next.ensures in
+    record { ready = rw (c.next-m.ensures, d.1.state) (moved_on c.loop-sp.invariant.0 d.0 d.1.carried refl).so_far.ready }
 
-pub loop-sp-preserved-in-NextFlagged : goal.loop-sp-preserved-in-NextFlagged
-loop-sp-preserved-in-NextFlagged c =
-    let l = c.loop-sp in
-    let d = c.carry_out-way in
-    rw c.next_flagged-s.ensures
-    (moved_on l.invariant d.ensures (ap (λ (w : Way). answered l.s w) c.in-NextFlagged.is) d.auto.image refl)
+pub loop-sp-preserved-in-Next-1 : goal.loop-sp-preserved-in-Next-1
+loop-sp-preserved-in-Next-1 c =
+    let d = rw c.in-Some-Next.field-0-is at c.in-Some-Next.ensures in
+    (rw (c.next-m.ensures, d.1.state) (moved_on c.loop-sp.invariant.0 d.0 d.1.carried refl), d.1.image ∙ c.loop-sp.invariant.1)
+
+pub invariant_of-m-in-Some-NextFlagged : goal.invariant_of-m-in-Some-NextFlagged
+invariant_of-m-in-Some-NextFlagged c =
+    let d = rw c.in-Some-NextFlagged.field-0-is at c.in-Some-NextFlagged.ensures in
+    record { ready = rw (c.next_flagged-m.ensures, d.1.state) (moved_on c.loop-sp.invariant.0 d.0 d.1.carried refl).so_far.ready }
+
+pub loop-sp-preserved-in-NextFlagged-1 : goal.loop-sp-preserved-in-NextFlagged-1
+loop-sp-preserved-in-NextFlagged-1 c =
+    let d = rw c.in-Some-NextFlagged.field-0-is at c.in-Some-NextFlagged.ensures in
+    (rw (c.next_flagged-m.ensures, d.1.state) (moved_on c.loop-sp.invariant.0 d.0 d.1.carried refl), d.1.image ∙ c.loop-sp.invariant.1)
+
+pub invariant_of-m-in-Some-Jump : goal.invariant_of-m-in-Some-Jump
+invariant_of-m-in-Some-Jump c =
+    let d = rw c.in-Some-Jump.field-0-is at c.in-Some-Jump.ensures in
+    record { ready = rw c.jump-m.ensures (came c.loop-sp.invariant.0 d.0 d.1.carried _ refl).ready }
 
 pub returns-then-last-at : goal.returns-then-last-at
 returns-then-last-at c =
-    let l = c.loop-sp in
-    let d = c.carry_out-way in
-    let h = ap (λ (w : Way). answered l.s w) c.in-Jump.is in
-    rw (c.here-then-last-at.ensures, c.jump-s.ensures) (come_to l.invariant d.ensures h d.auto.image (omega arith))
+    let d = rw c.in-Some-Jump.field-0-is at c.in-Some-Jump.ensures in
+    let left = c.loop-sp.goal - c.loop-sp.m.state.pc.0 - 1 in
+    let to = c.in-Some-Jump.to.0 in
+    record {
+      reaches = rw c.jump-m.ensures (came c.loop-sp.invariant.0 d.0 d.1.carried (to + left - to) (omega arith)).reaches;
+      image = d.1.image ∙ c.loop-sp.invariant.1;
+    }
 
 pub loop-sp-preserved : goal.loop-sp-preserved
 loop-sp-preserved c =
-    let l = c.loop-sp in
-    let d = c.carry_out-way in
-    let h = ap (λ (w : Way). answered l.s w) c.in-Jump.is in
-    rw c.jump-s.ensures
-    (jumped l.invariant d.ensures h d.auto.image (omega arith) (omega arith) c.lesser-halt-in-Jump.ensures)
+    let d = rw c.in-Some-Jump.field-0-is at c.in-Some-Jump.ensures in
+    (
+      rw c.jump-m.ensures
+      (jumped c.loop-sp.invariant.0 d.0 d.1.carried (omega arith) (omega arith) c.min-halt-in-Some-Jump.ensures),
+      d.1.image ∙ c.loop-sp.invariant.1,
+    )
