@@ -1,5 +1,5 @@
 -- What is promised of the common instructions.
-use Rattle.std.specs.Prelude.{◌≡◌, Bool, false, None, Some, Ok, ◌⊎◌}
+use Rattle.std.specs.Prelude.{◌≡◌, Bool, false, None, Some, Ok}
 use Rattle.std.specs.declared.option.Option.{Option}
 use Rattle.machine.specs.declared.Way.{Way}
 use Rattle.machine.specs.declared.machine.Machine.{Machine}

@@ -8,8 +8,7 @@ returns-then-m c = record { reaches = none_done c.args.left refl; image = refl }
 
 pub loop-sp-init : goal.loop-sp-init
 loop-sp-init c =
-    let a = c.args in
-    (
+    let a = c.args in (
       record {
         so_far = record {
           ready = a.m.now.ready;
@@ -63,9 +62,8 @@ returns-then-last-at c =
 
 pub loop-sp-preserved : goal.loop-sp-preserved
 loop-sp-preserved c =
-    let d = rw c.in-Some-Jump.field-0-is at c.in-Some-Jump.ensures in
-    (
+    let d = rw c.in-Some-Jump.field-0-is at c.in-Some-Jump.ensures in (
       rw c.jump-m.ensures
-      (jumped c.loop-sp.invariant.0 d.0 d.1.carried (omega arith) (omega arith) c.min-halt-in-Some-Jump.ensures),
+          (jumped c.loop-sp.invariant.0 d.0 d.1.carried (omega arith) (omega arith) c.min-halt-in-Some-Jump.ensures),
       d.1.image ∙ c.loop-sp.invariant.1,
     )

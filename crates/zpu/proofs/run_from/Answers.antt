@@ -25,8 +25,7 @@ loop-left-preserved-then-left-gt0 c =
     let l = c.loop-left in
     let d = c.in-Done.ensures in
     let v = stepped l.invariant.0 d.carried (omega arith) in
-    let w = c.stretch-left in
-    (
+    let w = c.stretch-left in (
       record { ready = w.new.m.ready; reaches = joined v.reaches w.ensures.reaches },
       w.ensures.image ∙ d.image ∙ l.invariant.1,
     )
