@@ -1,7 +1,7 @@
 // The machine's memory: a lent byte image, read and written at a byte address or a word index.
 #![tactic(auto)]
 
-ghost use Rattle.std.specs.Prelude.{◌≡◌, ◌+◌, ◌*◌, ◌/◌, ◌<◌, ◌≤◌, length};
+ghost use Rattle.std.specs.Prelude.{◌≡◌, ◌+◌, ◌*◌, ◌/◌, ◌^◌, ◌<◌, ◌≤◌, length};
 ghost use Rattle.memory.specs.Memory.{good_length, get_bytes, set_bytes, word};
 
 // The address of a byte: what the program counter is, and what LOAD and STORE take.
@@ -24,7 +24,7 @@ impl ByteAddr {
 impl WordIndex {
     // Where in the image the word starts.
     fn place(self) -> usize
-        requires { self.0 ≤ 16384 }
+        requires { 4 * self.0 < 2 ^ 64 }
         ensures { result ≡ 4 * self.0 }
     {
         4 * self.0
@@ -73,7 +73,7 @@ pub fn read_half(image: &[u8], a: ByteAddr) -> u32
 
 #[tactic(auto, unfolding(crate::specs::Memory::get_bytes))]
 pub fn read_word(image: &[u8], w: WordIndex) -> u32
-    requires { (w.0 < length image.now / 4) × (length image.now ≤ 65536) }
+    requires { w.0 < length image.now / 4 }
     ensures { result ≡ word image.now w.0 }
 {
     let at = w.place();
@@ -99,7 +99,7 @@ pub fn write_half(image: &mut [u8], a: ByteAddr, v: u32)
 
 #[tactic(auto, using(crate::proofs::Copies::stored), unfolding(crate::specs::Memory::set_bytes))]
 pub fn write_word(image: &mut [u8], w: WordIndex, v: u32)
-    requires { (w.0 < length image.old / 4) × (length image.old ≤ 65536) }
+    requires { w.0 < length image.old / 4 }
     ensures { image.new ≡ set_bytes image.old (4 * w.0) 4 v }
 {
     let at = w.place();

@@ -7,6 +7,7 @@ ghost use Rattle.machine.specs.Inner.{finish_of};
 ghost use Rattle.machine.specs.Machines.{at};
 ghost use Rattle.machine.specs.State.{place};
 ghost use Rattle.machine.specs.Run.{run_from, handed_back, Runs};
+ghost use Rattle.zpu.specs.Entry.{Enters};
 
 use machine::{Answer, Core, Finish, Machine, Outcome, State};
 
@@ -59,29 +60,34 @@ fn run_from(core: Core, m: &mut Machine, limit: u32) -> Finish
     }
 }
 
+// IMAGE and START, which are tested once.
+fn entry(image: &[u8], start: State) -> Result<(), Outcome>
+    ensures { Enters image.now start result }
+{
+    if !memory::good_length(image.len()) {
+        return Err(Outcome::Image);
+    }
+    if memory::words(image).0 < start.sp.0 {
+        return Err(Outcome::Start);
+    }
+    Ok(())
+}
+
 pub fn run(core: Core, image: &mut [u8], start: State, limit: u32) -> Finish
     ensures { Runs core limit (place image.old start) result image.new }
 {
-    if memory::good_length(image.len()) {
-        let sp = start.sp.0;
-        if memory::words(image).0 < sp {
-            return Finish {
-                outcome: Outcome::Start,
-                steps: 0,
-                state: start,
-            };
-        }
-        let mut machine = Machine {
-            image,
+    if let Err(outcome) = entry(image, start) {
+        return Finish {
+            outcome,
+            steps: 0,
             state: start,
         };
-        return run_from(core, &mut machine, limit);
     }
-    Finish {
-        outcome: Outcome::Image,
-        steps: 0,
+    let mut machine = Machine {
+        image,
         state: start,
-    }
+    };
+    run_from(core, &mut machine, limit)
 }
 
 pub fn step(core: Core, image: &mut [u8], start: State) -> Finish
