@@ -4,7 +4,7 @@
 ghost use Rattle.classes.specs.Classes.{Agrees};
 
 // Bytes from 32 to 63 are EMULATE on the narrow core: those of `Sub`, `Call` and `Neqbranch`, and of `Emulate`, which on the wide
-// core are no common instructions.
+// core are no common instructions. `Other` is no `None`: an Option would put `Some` on each of the forty rows below.
 #[derive(Clone, Copy)]
 pub enum Class {
     Im,

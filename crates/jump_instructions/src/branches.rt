@@ -1,4 +1,4 @@
-// NEQBRANCH and EQBRANCH.
+// NEQBRANCH and EQBRANCH: not one function over the test, since an EQBRANCH that does not branch keeps both words.
 ghost use Rattle.machine.specs.Instructions.{Instr.NEQBRANCH, Instr.EQBRANCH};
 ghost use Rattle.machine.specs.Machines.{Does};
 

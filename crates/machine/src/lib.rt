@@ -64,6 +64,7 @@ impl State {
         }
     }
 
+    // Not `next` with the flag handed in: at the calls the name says more than `true`.
     pub fn next_flagged(self, sp: WordIndex) -> State
         ensures { result ≡ next_flagged self sp.0 }
     {
@@ -108,7 +109,8 @@ pub enum Way {
     Stop,
 }
 
-// What a step answers: the next state, the state after a BREAK, or the state it refused to leave and why.
+// What a step answers: the next state, the state after a BREAK, or the state it refused to leave and why. Three cases, so no
+// `Result`; document 01 has it taken apart at once.
 #[derive(Clone, Copy)]
 pub enum Answer {
     Done(State),

@@ -20,13 +20,14 @@ impl Machine<'_> {
     pub fn word(&self, n: u8) -> Result<WordIndex, Outcome>
         ensures { WordOrStack self.now (self.now.state.sp.0 + n) result }
     {
-        let at = self.state.sp.0 + n as usize;
+        let at = self.state.sp.0 + usize::from(n);
         if memory::words(self.image).0 <= at {
             return Err(Outcome::Stack);
         }
         Ok(WordIndex(at))
     }
 
+    // That a word is there is asked in each contract: a type of such indexes could not name the image.
     pub fn read(&self, w: WordIndex) -> u32
         requires { w.0 < length self.now.image.now / 4 }
         ensures { result ≡ word self.now.image.now w.0 }

@@ -4,7 +4,8 @@
 ghost use Rattle.std.specs.Prelude.{◌≡◌, ◌+◌, ◌*◌, ◌/◌, ◌^◌, ◌<◌, ◌≤◌, length};
 ghost use Rattle.memory.specs.Memory.{good_length, get_bytes, set_bytes, word};
 
-// The address of a byte: what the program counter is, and what LOAD and STORE take.
+// The address of a byte: what the program counter is, and what LOAD and STORE take. Its conversions have names: document 01 has
+// one each way, and `From` would not say that it drops the two low bits.
 #[derive(Clone, Copy)]
 pub struct ByteAddr(pub u32);
 
@@ -54,6 +55,7 @@ pub fn words(image: &[u8]) -> WordIndex
     ByteAddr(image.len() as u32).word()
 }
 
+// Each width is a line over the library's word for it; a trait over the three would be longer.
 #[tactic(auto, unfolding(crate::specs::Memory::get_bytes))]
 pub fn read_byte(image: &[u8], a: ByteAddr) -> u32
     requires { a.0 < length image.now }

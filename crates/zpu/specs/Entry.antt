@@ -12,5 +12,5 @@ Enters m s r =
     MatchResult r
     (λ _. (good_length (length m) ≡ true) × (s.sp.0 ≤ length m / 4))
     (λ o.
-      ((o ≡ Image) × (good_length (length m) ≡ false))
-      ⊎ ((o ≡ Start) × (good_length (length m) ≡ true) × (length m / 4 < s.sp.0)))
+    ((o ≡ Image) × (good_length (length m) ≡ false))
+    ⊎ ((o ≡ Start) × (good_length (length m) ≡ true) × (length m / 4 < s.sp.0)))

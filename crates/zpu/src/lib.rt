@@ -96,7 +96,7 @@ pub fn step(core: Core, image: &mut [u8], start: State) -> Finish
     run(core, image, start, 1)
 }
 
-// The paper's number of an outcome.
+// The paper's number of an outcome. By this name and not by `From`, which would not say whose number it is.
 pub fn number(outcome: Outcome) -> u32
     ensures { result ≡ number outcome }
 {
