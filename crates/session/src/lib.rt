@@ -24,13 +24,7 @@ const START: u32 = microcode::LENGTH as u32;
 pub fn takes(length: usize) -> bool
     ensures { result ≡ takes length }
 {
-    if length < SHORTEST {
-        return false;
-    }
-    if LONGEST < length {
-        return false;
-    }
-    length % 4 == 0
+    (SHORTEST..=LONGEST).contains(&length) && length % 4 == 0
 }
 
 // The steps that a core may take.
@@ -47,7 +41,7 @@ pub fn session(core: Core, limit: u32, image: &mut [u8]) -> Finish
     requires { takes (length image.old) ≡ true }
     ensures { handed_back result image.new ≡ session core limit image.old }
 {
-    microcode::lay(image);
+    microcode::lay(image).unwrap();
     let start = State {
         pc: ByteAddr(START),
         sp: memory::words(image),

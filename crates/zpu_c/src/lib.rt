@@ -9,7 +9,7 @@ ghost use Rattle.microcode.specs.Laying.{Lays};
 
 use machine::{Core, State};
 use memory::{ByteAddr, WordIndex};
-use microcode::Laid;
+use microcode::TooShort;
 
 #[repr(C)]
 #[derive(Clone, Copy)]
@@ -78,9 +78,8 @@ pub extern "C" fn zpu_step(image: &mut [u8], start: CState, core: u32) -> CEnd
 pub extern "C" fn zpu_page(image: &mut [u8]) -> u32
     ensures { Lays image.old result image.new }
 {
-    let laid = microcode::lay(image);
-    match laid {
-        Laid::InPlace => 0,
-        Laid::TooShort => 2,
+    match microcode::lay(image) {
+        Ok(()) => 0,
+        Err(TooShort) => 2,
     }
 }
