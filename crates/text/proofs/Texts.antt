@@ -34,5 +34,6 @@ puts_then {s} {t} {p} h k = record {
 }
 
 -- text at the start of a buffer that has room for it
-pub alone : {t : List ℕ} {p q : Text} → Puts t p q → p.at ≡ 0 → length t ≤ length p.out.now → (q.at ≡ length t) × (q.out.now ≡ t ++ drop q.at p.out.now)
-alone {t} {p} h start room = (omega arith, cc (sets-eq t p.out.now 0 (omega arith)))
+pub alone : {t m : List ℕ} {p q : Text} {r : ℕ} → Puts t p q → p.at ≡ 0 → p.out.now ≡ m → r ≡ q.at → length t ≤ length m
+    → (r ≡ length t) × (q.out.now ≡ t ++ drop r m)
+alone {t} {m} h start bytes end room = (omega arith, cc (sets-eq t m 0 (omega arith)))

@@ -6,6 +6,7 @@ ghost use Rattle.text.specs.Decimal.{decimal};
 ghost use Rattle.text.specs.Text.{Puts, Room};
 
 // The text so far is the first `at` bytes. It is no `fmt::Write`: by that trait's contract each write may fail.
+#[derive(Drop)]
 pub struct Text<'a> {
     out: &'a mut [u8],
     at: usize,
