@@ -5,7 +5,7 @@ ghost use Rattle.std.specs.Prelude.{◌≡◌, [], ◌∷◌, length};
 ghost use Rattle.text.specs.Decimal.{decimal};
 ghost use Rattle.text.specs.Text.{Puts, Room};
 
-// The text so far is the first `at` bytes. It is no `fmt::Write`: by that trait's contract each write may fail.
+// The text so far is the first `at` bytes. It is no `fmt::Write`, each write of which may fail by its contract: these cannot.
 #[derive(Drop)]
 pub struct Text<'a> {
     out: &'a mut [u8],
