@@ -1,14 +1,13 @@
 -- The page over the first bytes of an image. An image too short for it stays as it is.
-use Rattle.std.specs.Prelude.{ℕ, ◌≡◌, cond, List, ◌++◌, length, drop, ltb}
+use Rattle.std.specs.Prelude.{ℕ, ◌≡◌, cond, List, ◌++◌, length, drop, ltb, Result, Ok, Err}
 use Rattle.routines.specs.Constants.{page_length}
 use Rattle.routines.specs.Page.{page}
-use Rattle.microcode.specs.declared.Laid.{Laid}
-use Rattle.microcode.specs.declared.Laid.TheVariants.{InPlace, TooShort}
+use Rattle.microcode.specs.declared.TooShort.{TooShort}
 
 -- the number of an answer: too short for the page is IMAGE's
-abbrev pub number : Laid → ℕ
-number InPlace = 0
-number TooShort = 2
+abbrev pub number : Result (Unit {0}) TooShort → ℕ
+number (Ok _) = 0
+number (Err _) = 2
 
 -- the page over the first bytes of m
 abbrev pub laid : List ℕ → List ℕ

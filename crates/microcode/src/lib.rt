@@ -11,18 +11,16 @@ use page::PAGE;
 // The narrow steps for a wide one, at most.
 pub const STEP_BOUND: u32 = 200;
 
+// The image is shorter than the page.
 #[derive(Clone, Copy)]
-pub enum Laid {
-    InPlace,
-    TooShort,
-}
+pub struct TooShort;
 
-pub fn lay(image: &mut [u8]) -> Laid
+pub fn lay(image: &mut [u8]) -> Result<(), TooShort>
     ensures { Lays image.old (number result) image.new }
 {
     if image.len() < LENGTH {
-        return Laid::TooShort;
+        return Err(TooShort);
     }
     image[..LENGTH].copy_from_slice(&PAGE);
-    Laid::InPlace
+    Ok(())
 }

@@ -33,10 +33,6 @@ line core r =
     ++ blank ∷ top r.place.memory r.place.state.sp.0
     ++ line_feed ∷ []
 
--- the name of a core takes no more bytes
-abbrev pub name_room : ℕ
-name_room = 6
-
 -- a blank and a number of 32 bits take no more
 abbrev pub field_room : ℕ
 field_room = 11

@@ -1,59 +1,58 @@
 // A line: core, outcome, counter, sp and top, a blank between.
-ghost use Rattle.std.specs.Prelude.{◌∷◌, ◌+◌, ◌≤◌};
+ghost use Rattle.std.specs.Prelude.{◌≡◌, ◌∷◌, ◌+◌, ◌≤◌};
 ghost use Rattle.machine.specs.Run.{handed_back};
 ghost use Rattle.text.specs.Decimal.{decimal};
 ghost use Rattle.text.specs.Text.{Puts, Room};
-ghost use Rattle.report.specs.Lines.{name, blank, top, line, Inside, name_room, field_room, line_room};
+ghost use Rattle.report.specs.Lines.{name, blank, top, line, Inside, field_room, line_room};
 
 use machine::{Core, Finish};
 use memory::WordIndex;
+use text::Text;
 
-fn name(out: &mut [u8], at: usize, core: Core) -> usize
-    requires { Room name_room at out.old }
-    ensures puts { Puts (name core) at out.old result out.new }
-    ensures upper_bound { result ≤ at + name_room }
+fn name(core: Core) -> &'static [u8]
+    ensures { result.now ≡ name core }
 {
     match core {
-        Core::Narrow => text::letters(out, at, b"narrow"),
-        Core::Wide => text::letters(out, at, b"wide"),
+        Core::Narrow => b"narrow",
+        Core::Wide => b"wide",
     }
 }
 
 // A blank and a number.
-fn field(out: &mut [u8], at: usize, n: u32) -> usize
-    requires { Room field_room at out.old }
-    ensures puts { Puts (blank ∷ decimal n) at out.old result out.new }
-    ensures upper_bound { result ≤ at + field_room }
+#[tactic(auto, using(text::proofs::Decimals::of_word))]
+fn field(text: &mut Text, n: u32)
+    requires { Room field_room text.old }
+    ensures puts { Puts (blank ∷ decimal n) text.old text.new }
+    ensures upper_bound { text.new.at ≤ text.old.at + field_room }
 {
-    let next = text::byte(out, at, b' ');
-    text::number(out, next, n)
+    text.byte(b' ');
+    text.number(n);
 }
 
 // A blank and the top, or `-` where there is none.
-fn top(out: &mut [u8], at: usize, image: &[u8], sp: usize) -> usize
-    requires room { Room field_room at out.old }
-    requires inside { Inside image.now sp }
-    ensures puts { Puts (blank ∷ top image.now sp) at out.old result out.new }
-    ensures upper_bound { result ≤ at + field_room }
+#[tactic(auto, unfolding(crate::specs::Lines::top))]
+fn top(text: &mut Text, image: &[u8], sp: WordIndex)
+    requires room { Room field_room text.old }
+    requires inside { Inside image.now sp.0 }
+    ensures puts { Puts (blank ∷ top image.now sp.0) text.old text.new }
+    ensures upper_bound { text.new.at ≤ text.old.at + field_room }
 {
-    if sp == memory::words(image).0 {
-        return text::letters(out, at, b" -");
+    if sp.0 == memory::words(image).0 {
+        return text.letters(b" -");
     }
-    field(out, at, memory::read_word(image, WordIndex(sp)))
+    field(text, memory::read_word(image, sp));
 }
 
-pub(crate) fn line(out: &mut [u8], at: usize, core: Core, end: Finish, image: &[u8]) -> usize
-    requires room { Room line_room at out.old }
+pub(crate) fn line(text: &mut Text, core: Core, end: Finish, image: &[u8])
+    requires room { Room line_room text.old }
     requires inside { Inside image.now end.state.sp.0 }
-    ensures puts { Puts (line core (handed_back end image.now)) at out.old result out.new }
-    ensures upper_bound { result ≤ at + line_room }
+    ensures puts { Puts (line core (handed_back end image.now)) text.old text.new }
+    ensures upper_bound { text.new.at ≤ text.old.at + line_room }
 {
-    let sp = end.state.sp.0;
-    let outcome = end.outcome;
-    let named = name(out, at, core);
-    let outcome_told = field(out, named, zpu::number(outcome));
-    let counter_told = field(out, outcome_told, end.state.pc.0);
-    let sp_told = field(out, counter_told, sp as u32);
-    let top_told = top(out, sp_told, image, sp);
-    text::byte(out, top_told, b'\n')
+    text.letters(name(core));
+    field(text, zpu::number(end.outcome));
+    field(text, end.state.pc.0);
+    field(text, end.state.sp.0 as u32);
+    top(text, image, end.state.sp);
+    text.byte(b'\n');
 }

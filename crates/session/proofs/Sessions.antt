@@ -31,6 +31,9 @@ taken l h =
     let (not_under, not_over) = both (leb shortest l) (leb l longest) sizes in
     record { not_under = leb-true shortest l not_under; not_over = leb-true l longest not_over; whole = eqb-true (l % 4) 0 whole }
 
+pub within : (l : ℕ) → takes l ≡ true → l ≤ longest
+within l h = (taken l h).not_over
+
 module _ (m : List ℕ) (h : takes (length m) ≡ true) where
   size : Taken (length m)
   size = taken (length m) h

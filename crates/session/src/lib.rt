@@ -1,7 +1,7 @@
 // A session of a core: the page over an image, and a run from just above the page, the stack empty.
 #![tactic(auto)]
 
-ghost use Rattle.std.specs.Prelude.{◌≡◌, true, length};
+ghost use Rattle.std.specs.Prelude.{◌≡◌, ◌/◌, ◌≤◌, true, length};
 ghost use Rattle.machine.specs.Run.{handed_back};
 ghost use Rattle.session.specs.Sessions.{takes, limit_of, session};
 
@@ -24,13 +24,7 @@ const START: u32 = microcode::LENGTH as u32;
 pub fn takes(length: usize) -> bool
     ensures { result ≡ takes length }
 {
-    if length < SHORTEST {
-        return false;
-    }
-    if LONGEST < length {
-        return false;
-    }
-    length % 4 == 0
+    (SHORTEST..=LONGEST).contains(&length) && length % 4 == 0
 }
 
 // The steps that a core may take.
@@ -43,11 +37,13 @@ pub fn limit_of(core: Core) -> u32
     }
 }
 
+#[tactic(auto, using(crate::proofs::Sessions::within))]
 pub fn session(core: Core, limit: u32, image: &mut [u8]) -> Finish
     requires { takes (length image.old) ≡ true }
-    ensures { handed_back result image.new ≡ session core limit image.old }
+    ensures ran { handed_back result image.new ≡ session core limit image.old }
+    ensures inside { result.state.sp.0 ≤ length image.new / 4 }
 {
-    microcode::lay(image);
+    microcode::lay(image).unwrap();
     let start = State {
         pc: ByteAddr(START),
         sp: memory::words(image),

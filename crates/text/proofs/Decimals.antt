@@ -34,7 +34,7 @@ more_digits n h =
     spare n (suc n) n (omega arith) (omega arith)
     ∙ rw (le-ltb n 10 h, spare n (n / 10) (n / 10) (omega arith) (omega arith))
 
-pub at_most : (k n : ℕ) → n < 10 ^ suc k → length (decimal n) ≤ suc k
+at_most : (k n : ℕ) → n < 10 ^ suc k → length (decimal n) ≤ suc k
 at_most zero n h = rw (one_digit n h) (omega arith)
 at_most (suc k) n h = by_size (dec_lt n 10) (at_most k (n / 10) (omega (arith, pow-suc 10 (suc k))))
   where
@@ -42,3 +42,6 @@ at_most (suc k) n h = by_size (dec_lt n 10) (at_most k (n / 10) (omega (arith, p
     by_size (yes s) tenth = rw (one_digit n s) (omega arith)
     by_size (no s) tenth =
         rw (more_digits n (omega arith)) (omega (arith, length-append (decimal (n / 10)) (digit (n % 10) ∷ [])))
+
+pub of_word : (n : ℕ) → n < 2 ^ 32 → length (decimal n) ≤ 10
+of_word n h = at_most 9 n (omega (arith, h))

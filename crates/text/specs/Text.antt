@@ -1,12 +1,15 @@
 -- Text in a lent buffer.
 use Rattle.std.specs.Prelude.{ℕ, ◌+◌, ◌≤◌, ◌≡◌, List, length}
 use Rattle.std.proofs.lemmas.List.Edits.{sets}
+use Rattle.text.specs.declared.Text.{Text}
 
--- the bytes t stand from place a on and nothing else has changed; r is the place after them
-pub record Puts (t : List ℕ) (a : ℕ) (m : List ℕ) (r : ℕ) (m' : List ℕ) : Type 0 where
-  pub place : r ≡ a + length t
-  pub bytes : m' ≡ sets m a t
+-- the bytes t are put where p's text ends and nothing else has changed
+pub record Puts (t : List ℕ) (p p' : Text) : Type 0 where
+  pub same_buffer : p'.out.ghost_name ≡ p.out.ghost_name
+  pub same_length : length p'.out.now ≡ length p.out.now
+  pub place : p'.at ≡ p.at + length t
+  pub bytes : p'.out.now ≡ sets p.out.now p.at t
 
--- n bytes fit from place a on
-abbrev pub Room : ℕ → ℕ → List ℕ → Type 0
-Room n a m = a + n ≤ length m
+-- n bytes more fit
+abbrev pub Room : ℕ → Text → Type 0
+Room n p = p.at + n ≤ length p.out.now

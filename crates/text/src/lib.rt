@@ -1,47 +1,59 @@
-// Text put into a lent buffer: each function puts some bytes from a place on, and answers the place after them.
+// Text put into a lent buffer, one piece after another.
 #![tactic(auto)]
 
-ghost use Rattle.std.specs.Prelude.{◌≡◌, [], ◌∷◌, ◌<◌, length};
-ghost use Rattle.text.specs.Decimal.{digit, decimal};
+ghost use Rattle.std.specs.Prelude.{◌≡◌, [], ◌∷◌, length};
+ghost use Rattle.text.specs.Decimal.{decimal};
 ghost use Rattle.text.specs.Text.{Puts, Room};
 
-pub fn byte(out: &mut [u8], at: usize, b: u8) -> usize
-    requires { Room 1 at out.old }
-    ensures { Puts (b ∷ []) at out.old result out.new }
-{
-    out[at] = b;
-    at + 1
+// The text so far is the first `at` bytes. It is no `fmt::Write`, each write of which may fail by its contract: these cannot.
+#[derive(Drop)]
+pub struct Text<'a> {
+    out: &'a mut [u8],
+    at: usize,
 }
 
-// A word of the text, as it stands.
-pub fn letters(out: &mut [u8], at: usize, word: &[u8]) -> usize
-    requires { Room (length word.now) at out.old }
-    ensures { Puts word.now at out.old result out.new }
-{
-    let mut i = 0;
-    let mut place = at;
-    while i < word.len() {
-        place = byte(out, place, word[i]);
-        i += 1;
+impl<'a> Text<'a> {
+    pub fn new(out: &'a mut [u8]) -> Text<'a>
+        ensures same_buffer { result.out.ghost_name ≡ out.entry.ghost_name }
+        ensures bytes { result.out.now ≡ out.old }
+        ensures empty { result.at ≡ 0 }
+    {
+        Text { out, at: 0 }
     }
-    place
-}
 
-fn digit(d: u32) -> u8
-    requires { d < 10 }
-    ensures { result ≡ digit d }
-{
-    48 + d as u8
-}
-
-// A number in decimal: the digits but the last, and the last.
-pub fn number(out: &mut [u8], at: usize, n: u32) -> usize
-    requires { Room (length (decimal n)) at out.old }
-    ensures { Puts (decimal n) at out.old result out.new }
-{
-    if n < 10 {
-        return byte(out, at, digit(n));
+    pub fn len(&self) -> usize
+        ensures { result ≡ self.now.at }
+    {
+        self.at
     }
-    let last = number(out, at, n / 10);
-    byte(out, last, digit(n % 10))
+
+    // A word of the text, as it stands.
+    #[tactic(auto, using(crate::proofs::Texts::copies))]
+    pub fn letters(&mut self, word: &[u8])
+        requires { Room (length word.now) self.old }
+        ensures { Puts word.now self.old self.new }
+    {
+        let end = self.at + word.len();
+        self.out[self.at..end].copy_from_slice(word);
+        self.at = end;
+    }
+
+    pub fn byte(&mut self, b: u8)
+        requires { Room 1 self.old }
+        ensures { Puts (b ∷ []) self.old self.new }
+    {
+        self.letters(&[b]);
+    }
+
+    // A number in decimal: the digits but the last, and the last.
+    #[tactic(auto, using(crate::proofs::Texts::decimals))]
+    pub fn number(&mut self, n: u32)
+        requires { Room (length (decimal n)) self.old }
+        ensures { Puts (decimal n) self.old self.new }
+    {
+        if n >= 10 {
+            self.number(n / 10);
+        }
+        self.byte(b'0' + (n % 10) as u8);
+    }
 }

@@ -4,12 +4,12 @@
 ghost use Rattle.std.specs.Prelude.{◌≡◌, ◌^◌, ◌<◌};
 ghost use Rattle.machine.specs.State.{place};
 ghost use Rattle.machine.specs.Run.{run};
-ghost use Rattle.zpu_c.specs.Values.{core_of, state_of, flag_of, Tells};
+ghost use Rattle.zpu_c.specs.Values.{core_of, state_of, Tells};
 ghost use Rattle.microcode.specs.Laying.{Lays};
 
 use machine::{Core, State};
 use memory::{ByteAddr, WordIndex};
-use microcode::Laid;
+use microcode::TooShort;
 
 #[repr(C)]
 #[derive(Clone, Copy)]
@@ -33,36 +33,30 @@ fn core_of(n: u32) -> Core
     if n == 1 { Core::Wide } else { Core::Narrow }
 }
 
-fn state_of(s: CState) -> State
-    ensures { (result ≡ state_of s) × (result.sp.0 < 2 ^ 32) }
-{
-    State {
-        pc: ByteAddr(s.pc),
-        sp: WordIndex(s.sp as usize),
-        flag: s.flag != 0,
-    }
-}
+impl From<CState> for State {
+    ghost from_gives = { λ s r. (r ≡ state_of s) × (r.sp.0 < 2 ^ 32) };
 
-fn flag_of(s: State) -> u32
-    ensures { result ≡ flag_of s }
-{
-    let flag = s.flag;
-    if flag { 1 } else { 0 }
+    fn from(s: CState) -> State {
+        State {
+            pc: ByteAddr(s.pc),
+            sp: WordIndex(s.sp as usize),
+            flag: s.flag != 0,
+        }
+    }
 }
 
 #[unsafe(no_mangle)]
 pub extern "C" fn zpu_run(image: &mut [u8], start: CState, core: u32, limit: u32) -> CEnd
     ensures { Tells result image.new (run (core_of core) limit (place image.old (state_of start))) }
 {
-    let f = zpu::run(core_of(core), image, state_of(start), limit);
-    let o = f.outcome;
+    let end = zpu::run(core_of(core), image, State::from(start), limit);
     CEnd {
-        outcome: zpu::number(o),
-        steps: f.steps,
+        outcome: zpu::number(end.outcome),
+        steps: end.steps,
         state: CState {
-            pc: f.state.pc.0,
-            sp: f.state.sp.0 as u32,
-            flag: flag_of(f.state),
+            pc: end.state.pc.0,
+            sp: end.state.sp.0 as u32,
+            flag: u32::from(end.state.flag),
         },
     }
 }
@@ -78,9 +72,8 @@ pub extern "C" fn zpu_step(image: &mut [u8], start: CState, core: u32) -> CEnd
 pub extern "C" fn zpu_page(image: &mut [u8]) -> u32
     ensures { Lays image.old result image.new }
 {
-    let laid = microcode::lay(image);
-    match laid {
-        Laid::InPlace => 0,
-        Laid::TooShort => 2,
+    match microcode::lay(image) {
+        Ok(()) => 0,
+        Err(TooShort) => 2,
     }
 }

@@ -1,9 +1,9 @@
 // Reads an image on standard input, and prints how it ends on the wide and on the narrow core.
 #![tactic(auto)]
 
-ghost use Rattle.std.specs.Prelude.{◌≡◌, ◌<◌, ◌≤◌, length, take, OnOk};
+ghost use Rattle.std.specs.Prelude.{◌<◌, ◌≤◌, length, take, IsTrue, IfSome, OnOk};
 ghost use Rattle.std.specs.Io.KnownBytes.{Consumes, IsAtEnd};
-ghost use Rattle.zpurun.specs.Printing.{most, Takes, Prints};
+ghost use Rattle.zpurun.specs.Printing.{most, IsFront, Prints};
 
 use std::io;
 use std::io::{Read, Write};
@@ -26,38 +26,30 @@ fn read_full<R: Read>(input: &mut R, buffer: &mut [u8]) -> usize
     done
 }
 
-// How many of the bytes read are taken for an image: none where the input was not read whole. `read_full` stops at a read
-// that fails, as one of a non-blocking input may, just as at the end; but only at the end does one more read answer 0.
-fn taken<R: Read>(input: &mut R, length: usize) -> usize
-    ensures in_bounds { result ≤ length }
-    ensures whole { 0 < result → result ≡ length }
-    ensures end { 0 < result → result < most → IsAtEnd (R.remaining input.old) }
+// Whether the bytes read are the whole input, or more than an image has. `read_full` stops at a read that fails, as one of a
+// non-blocking input may, just as at the end; but only at the end does one more read answer 0.
+fn is_whole<R: Read>(input: &mut R, length: usize) -> bool
+    ensures { IsTrue result → length < most → IsAtEnd (R.remaining input.old) }
 {
-    if length < INPUT {
-        let mut next = [0u8; 1];
-        let Ok(0) = input.read(&mut next) else {
-            return 0;
-        };
-    }
-    length
+    let mut next = [0u8; 1];
+    length == INPUT || matches!(input.read(&mut next), Ok(0))
 }
 
-// The image's length at the start of the buffer.
-fn image<R: Read>(input: &mut R, buffer: &mut [u8; INPUT]) -> usize
-    ensures in_bounds { result ≤ most }
-    ensures takes { Takes (R.remaining input.old) (take result buffer.new) }
+// What is taken for the image: none where the input was not read whole.
+fn image<'a, R: Read>(input: &mut R, buffer: &'a mut [u8; INPUT]) -> Option<&'a [u8]>
+    ensures { IfSome result (λ image. IsFront (R.remaining input.old) image.now) }
 {
     let length = read_full(input, buffer);
-    taken(input, length)
+    is_whole(input, length).then_some(&buffer[..length])
 }
 
 fn run<R: Read, W: Write>(input: &mut R, output: &mut W) -> io::Result<()>
     ensures { OnOk result (Prints (R.remaining input.old) (W.contents output.old) (W.contents output.new)) }
 {
     let mut buffer = [0u8; INPUT];
-    let length = image(input, &mut buffer);
+    let image = image(input, &mut buffer).unwrap_or(&[]);
     let mut out = [0u8; report::ROOM];
-    let printed = report::report(&buffer[..length], &mut out);
+    let printed = report::report(image, &mut out);
     output.write_all(&out[..printed])
 }
 

@@ -1,15 +1,18 @@
-use Rattle.std.proofs.Common.{length, ◌∙◌, arith, le-ltb}
-use Rattle.routines.specs.Constants.{page_length}
+use Rattle.std.proofs.Common.{◌≡◌, length, ◌∙◌, arith}
+use Rattle.machine.specs.Run.{handed_back}
+use Rattle.microcode.proofs.Laying.{in_place}
 use Rattle.session.specs.Sessions.{session}
-use Rattle.session.proofs.Sessions.{taken, laid_length}
+use Rattle.session.proofs.Sessions.{taken, laid_length, session_ends}
 use Rattle.session.proofs.session.Goals as goal
 
-pub words-requires : goal.words-requires
-words-requires c = omega (arith, c.lay.auto.image, taken (length c.args.image.now) c.requires)
+pub unwrap-requires : goal.unwrap-requires
+unwrap-requires c = (in_place _ _ _ c.lay.ensures (omega (arith, taken (length c.args.image.now) c.requires))).0
 
 pub returns : goal.returns
 unfolding session
 returns c =
     let m = c.args.image.now in
-    let fits = le-ltb (length m) page_length (omega (arith, taken (length m) c.requires)) in
-    c.run.ensures ∙ rw (c.words.ensures, c.lay.ensures.1, fits, laid_length m c.requires)
+    let laid = in_place _ _ _ c.lay.ensures (omega (arith, taken (length m) c.requires)) in
+    let ran : handed_back c.run.result c.run.new.image ≡ session c.args.core c.args.limit m =
+    c.run.ensures ∙ rw (c.words.ensures, laid.1, laid_length m c.requires) in
+    record { ran = ran; inside = omega (arith, rw (← ran) at (session_ends m c.requires c.args.core c.args.limit)) }

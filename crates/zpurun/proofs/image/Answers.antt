@@ -1,8 +1,11 @@
 use Rattle.std.proofs.Common.{rules}
-use Rattle.zpurun.proofs.Reading.{takes}
+use Rattle.zpurun.specs.Printing.{IsFront}
+use Rattle.zpurun.proofs.Reading.{is_front, if_true}
 use Rattle.zpurun.proofs.image.Goals as goal
 
-pub returns-clause-takes : goal.returns-clause-takes
-returns-clause-takes g c some =
+pub returns : goal.returns
+returns g c =
     let read = c.read_full-length in
-    takes _ _ read.new.buffer read.result c.taken.result (search rules) (search rules) read.ensures.bytes c.taken.ensures.whole c.taken.ensures.end (search rules)
+    rw c.then_some.ensures
+    (if_true c.is_whole.result _ (λ s. IsFront (g.R.Read.remaining c.args.input.now) s.now) λ whole.
+    is_front _ _ read.new.buffer read.result (search rules) (search rules) read.ensures.bytes (c.is_whole.ensures whole))

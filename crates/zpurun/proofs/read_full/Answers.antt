@@ -7,5 +7,8 @@ use Rattle.zpurun.proofs.read_full.Goals as goal
 pub loop-done-preserved : goal.loop-done-preserved
 loop-done-preserved g c =
     let before = c.loop-done.invariant in
-    let read = c.in-Ok.ensures in
-    (search rules, search rules, subst (Consumes _ _) (filled _ _ _ _ _ before.1 read.bound.0) (Consumes-trans _ _ _ _ _ before.2 read.bytes.0))
+    let now = c.in-Ok.ensures in
+    record {
+      within = search rules;
+      read = subst (Consumes _ _) (filled _ _ _ _ _ before.within now.bound.0) (Consumes-trans _ _ _ _ _ before.read now.bytes.0);
+    }

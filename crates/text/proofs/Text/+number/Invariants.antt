@@ -1,5 +1,5 @@
 -- The measure is the number.
-use Rattle.text.proofs.+number.Given as goal
+use Rattle.text.proofs.Text.+number.Given as goal
 
 abbrev pub decreases-number : goal.decreases-number
 decreases-number l = l.n
