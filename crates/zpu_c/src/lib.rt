@@ -27,6 +27,7 @@ pub struct CEnd {
     pub state: CState,
 }
 
+// C has numbers for cores and outcomes and for what `lay` answers. Any number is a core's, so this is no `TryFrom`.
 fn core_of(n: u32) -> Core
     ensures { result ≡ core_of n }
 {
