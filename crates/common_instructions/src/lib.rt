@@ -1,11 +1,12 @@
 // The instructions that programs are mostly made of, told by the class of a byte. What is none of them is left alone, and so is
-// what is refused, and everything where the run is to pause. Each arm tests for that by itself, for speed (docs/CHANGING.md).
+// what is refused, and everything where the run is to pause. Each arm tests for that by itself, for speed (docs/CHANGING.md). The
+// class and its byte, which agree, are two arguments: a struct of them would be made for these two functions alone.
 #![tactic(auto)]
 
 ghost use Rattle.std.specs.Prelude.{◌≡◌, false, ◌%◌};
 ghost use Rattle.machine.specs.declared.Core.TheVariants.{Narrow};
 ghost use Rattle.machine.specs.Instructions.{Instr.EMULATE, decode};
-ghost use Rattle.classes.specs.Classes.{Agrees};
+ghost use Rattle.classes.specs.Classes.{Agrees, meant};
 ghost use Rattle.common_instructions.specs.Tried.{Tried};
 
 use arithmetic::{BinOp, UnOp};
@@ -13,10 +14,10 @@ use classes::Class;
 use jump_instructions::Target;
 use machine::{Core, Machine, Way, Width};
 
-// A byte from 32 to 63.
+// A byte from 32 to 63. The class is matched anew: each arm that comes here is one class's, and keeps a jump of its own.
 fn by_core(core: Core, class: Class, m: &mut Machine, byte: u8) -> Option<Way>
     requires { Agrees class byte × (decode Narrow byte ≡ EMULATE (byte % 32)) }
-    ensures { Tried m.old (decode core byte) false result m.new }
+    ensures { Tried m.old (meant core class byte) (decode core byte) false result m.new }
 {
     match core {
         Core::Narrow => jump_instructions::emulate(m, byte % 32).ok(),
@@ -31,7 +32,7 @@ fn by_core(core: Core, class: Class, m: &mut Machine, byte: u8) -> Option<Way>
 
 pub fn carry_out(core: Core, class: Class, m: &mut Machine, byte: u8, pause: bool) -> Option<Way>
     requires { Agrees class byte }
-    ensures { Tried m.old (decode core byte) pause result m.new }
+    ensures { Tried m.old (meant core class byte) (decode core byte) pause result m.new }
 {
     match class {
         Class::Im if !pause => stack_instructions::im(m, byte).ok(),

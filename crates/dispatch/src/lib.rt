@@ -1,5 +1,5 @@
 // Which instruction a byte below 64 is on the wide core. Below 32 it is the same on the narrow one. A table of functions would be
-// no plainer than these matches, of which the compiler makes one jump (docs/CHANGING.md).
+// no plainer than these matches, of which the compiler makes one jump.
 #![tactic(auto)]
 
 ghost use Rattle.std.specs.Prelude.{◌≡◌, false, cond, ◌/◌, ◌%◌, ◌<◌, eqb};

@@ -61,12 +61,6 @@ module _ (core : Core) (n : ℕ) (p : Place) {m : List ℕ} {s : State} (so_far 
         ∙ ends_there m s e (0 + n) (run_from core (l - n - 1)) (λ t q. k t (done.answer ∙ q))
         ∙ rw (done.answer, done.memory, zero-add)
 
--- an answer whose tag is none of `Done`'s
-pub not_done : (a : Answer) → (tag_of Answer.the_type a ≡ 1) ⊎ (tag_of Answer.the_type a ≡ 2) → (t : State) → a ≡ Done t → ⊥
-not_done a h t e =
-    let z : tag_of Answer.the_type a ≡ 0 = rw e in
-    ⊎_elim (λ x. let y : ◌≡◌ {A = ℕ} 0 1 = cc in omega arith) (λ x. let y : ◌≡◌ {A = ℕ} 0 2 = cc in omega arith) h
-
 module _ (core : Core) (l : ℕ) (m : List ℕ) (s : State) where
   pub run_image : good_length (length m) ≡ false → run core l (place m s) ≡ ended Image 0 (place m s)
   unfolding run

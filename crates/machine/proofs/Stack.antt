@@ -1,5 +1,5 @@
--- What a stack word at an offset being there, or not, makes of an effect: once over the offset, for STORESP, LOADSP and ADDSP and
--- with n = 1 for whatever reads the second; and a push that has room.
+-- What a stack word at an offset being there, or not, makes of an effect, over the offset: STORESP, LOADSP and ADDSP, and with n = 1
+-- whatever reads the second; and a push that has room.
 use Rattle.std.proofs.Common.{◌≡◌, ℕ, ◌+◌, ◌-◌, ◌*◌, ◌/◌, ◌<◌, ◌≤◌, ltb, List, [], ◌∷◌, length, refl, ◌∙◌, inl, inr, arith, le-ltb, lt-ltb}
 use Rattle.memory.specs.Memory.{set_bytes}
 use Rattle.machine.specs.Effects.{Effect, Effect.refuse, Effect.go}

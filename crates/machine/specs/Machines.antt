@@ -46,7 +46,7 @@ Pushes p v r q =
     (λ x. (0 < p.state.sp.0) × (x.0 ≡ p.state.sp.0 - 1) × Writes p (p.state.sp.0 - 1) v q)
     (λ o. (o ≡ Stack) × (p.state.sp.0 ≡ 0) × With p p.image.now q)
 
--- the effect e was carried out at p: r was answered, and q is left
+-- the effect e was carried out at p: r was answered, and q is left, in p's state; to move it on is the caller's
 pub record Carries (p : Machine) (e : Effect) (r : Answer) (q : Machine) : Type 0 where
   pub carried : Carried p.image.now p.state e r q.image.now
   pub state : q.state ≡ p.state

@@ -18,6 +18,7 @@ pub enum Core {
     Wide,
 }
 
+// Document 01's one list. It is the error of an instruction too, which gives none of it but refusals.
 #[derive(Clone, Copy)]
 pub enum Outcome {
     Limit,

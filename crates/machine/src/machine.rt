@@ -1,4 +1,5 @@
-// A machine: an image and a state that it may be in. What an instruction reads and writes goes through its methods.
+// A machine: an image and a state that it may be in. Words of the stack are found, read, written and pushed by its methods. The
+// core is no part of it: both are run from one start.
 ghost use Rattle.machine.specs.Inner.{Ready};
 
 use crate::{Outcome, State};
@@ -27,7 +28,6 @@ impl Machine<'_> {
         Ok(WordIndex(at))
     }
 
-    // That a word is there is asked in each contract: a type of such indexes could not name the image.
     pub fn read(&self, w: WordIndex) -> u32
         requires { w.0 < length self.now.image.now / 4 }
         ensures { result ≡ word self.now.image.now w.0 }
@@ -46,11 +46,7 @@ impl Machine<'_> {
     pub fn push(&mut self, v: u32) -> Result<WordIndex, Outcome>
         ensures { Pushes self.old v result self.new }
     {
-        let sp = self.state.sp.0;
-        if sp == 0 {
-            return Err(Outcome::Stack);
-        }
-        let top = WordIndex(sp - 1);
+        let top = WordIndex(self.state.sp.0.checked_sub(1).ok_or(Outcome::Stack)?);
         self.write(top, v);
         Ok(top)
     }

@@ -19,12 +19,6 @@ pub true_is : (t : Bool) → T t → t ≡ true
 true_is true h = refl
 true_is false h = absurd h
 
-pub chosen : {A : Type 0} (t : Bool) → t ≡ true → (x y : A) → cond t x y ≡ x
-chosen t h x y = cond-true t x y h
-
-pub left_out : {A : Type 0} (t : Bool) → t ≡ false → (x y : A) → cond t x y ≡ y
-left_out t h x y = cond-false t x y h
-
 pub either_way : {A : Type 0} (t : Bool) (x : A) → cond t x x ≡ x
 either_way true x = refl
 either_way false x = refl

@@ -5,7 +5,8 @@ ghost use Rattle.std.specs.Prelude.{◌≡◌, ◌+◌, ◌*◌, ◌/◌, ◌^�
 ghost use Rattle.memory.specs.Memory.{good_length, get_bytes, set_bytes, word};
 
 // The address of a byte: what the program counter is, and what LOAD and STORE take. Its conversions have names: document 01 has
-// one each way, and `From` would not say that it drops the two low bits.
+// one each way, and `From` would not say that it drops the two low bits. Indexes of a slice are made of 32 bits by `as`, for which
+// there is no `From`.
 #[derive(Clone, Copy)]
 pub struct ByteAddr(pub u32);
 
@@ -23,7 +24,7 @@ impl ByteAddr {
 }
 
 impl WordIndex {
-    // Where in the image the word starts.
+    // Where in the image the word starts. By way of `byte` it would pass through 32 bits, an instruction more at each word.
     fn place(self) -> usize
         requires { 4 * self.0 < 2 ^ 64 }
         ensures { result ≡ 4 * self.0 }
@@ -55,7 +56,8 @@ pub fn words(image: &[u8]) -> WordIndex
     ByteAddr(image.len() as u32).word()
 }
 
-// Each width is a line over the library's word for it; a trait over the three would be longer.
+// Reads and writes, in each width a line or two over the library's words for it: a trait over the three would be longer. That the
+// place is there each asks for: a type of such places could not name the image.
 #[tactic(auto, unfolding(crate::specs::Memory::get_bytes))]
 pub fn read_byte(image: &[u8], a: ByteAddr) -> u32
     requires { a.0 < length image.now }

@@ -31,6 +31,7 @@ fn session_line(text: &mut Text, core: Core, input: &[u8])
     line::line(text, core, end, image);
 }
 
+// The caller's buffer is fixed, for want of a heap, so the answer is how much of it was put.
 pub fn report(input: &[u8], out: &mut [u8; ROOM]) -> usize
     ensures { Reports input.now out.old result out.new }
 {

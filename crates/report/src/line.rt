@@ -9,6 +9,7 @@ use machine::{Core, Finish};
 use memory::WordIndex;
 use text::Text;
 
+// Bytes, since `Text` is no `fmt::Write`, and so no `Display`.
 fn name(core: Core) -> &'static [u8]
     ensures { result.now ≡ name core }
 {

@@ -24,7 +24,7 @@ fn left_here(m: &mut Machine, goal: usize) -> u32
 
 // How many steps are left: from where m stands as far as the common instructions lead, to any other byte, to the last byte, to the
 // limit, or to what stops or is refused. While the counter only moves on, the limit is met where it comes to `goal`, and `halt` is
-// that or the last byte.
+// that or the last byte; only a jump makes them anew, so the ways are told apart here and not by `State::answer`.
 pub fn stretch(core: Core, m: &mut Machine, left: u32) -> u32
     ensures { Stretches core left m.old result m.new }
 {

@@ -37,6 +37,7 @@ fn ended_by(answer: Answer, n: u32) -> Finish
 
 // The steps in order, counted, to the first stop: one by `step`, which takes any byte and alone can end a run before its limit, and
 // then a stretch of the common instructions, in turns. The step comes first, so that a call with limit 1 is done with it alone.
+// It is no `for`, since a stretch takes as many steps off as it has done.
 fn run_from(core: Core, m: &mut Machine, limit: u32) -> Finish
     ensures end { handed_back result m.new.image.now ≡ run_from core limit 0 (at m.old) }
     ensures image { m.new.image.ghost_name ≡ m.old.image.ghost_name }
@@ -61,6 +62,7 @@ fn run_from(core: Core, m: &mut Machine, limit: u32) -> Finish
 }
 
 // IMAGE and START, which are tested once.
+#[tactic(auto, using(std::proofs::lemmas::Bool::Decides::nat_tests), unfolding(memory::specs::Memory::good_length))]
 fn entry(image: &[u8], start: State) -> Result<(), Outcome>
     ensures { Enters image.now start result }
 {
