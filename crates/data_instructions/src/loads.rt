@@ -14,7 +14,7 @@ fn read(m: &Machine, w: Width, a: ByteAddr) -> u32
 {
     match w {
         Width::Word => m.read(a.word()),
-        Width::Half => memory::read_half(m.image, ByteAddr(2 * (a.0 / 2))),
+        Width::Half => memory::read_half(m.image, crate::even(a)),
         Width::Byte => memory::read_byte(m.image, a),
     }
 }

@@ -13,7 +13,7 @@ fn write(m: &mut Machine, w: Width, a: ByteAddr, v: u32)
 {
     match w {
         Width::Word => m.write(a.word(), v),
-        Width::Half => memory::write_half(m.image, ByteAddr(2 * (a.0 / 2)), v),
+        Width::Half => memory::write_half(m.image, crate::even(a), v),
         Width::Byte => memory::write_byte(m.image, a, v),
     }
 }

@@ -35,20 +35,21 @@ pub fn stretch(core: Core, m: &mut Machine, left: u32) -> u32
     let last = m.image.len() - 1;
     let mut halt = goal.min(last);
     loop {
-        let pc = m.state.pc.0 as usize;
+        let s = m.state;
+        let pc = s.pc.0 as usize;
         let byte = m.image[pc];
         let class = classes::class_of(byte);
         match common_instructions::carry_out(core, class, m, byte, pc == halt) {
             Some(Way::Next(sp)) => {
-                m.state = m.state.next(sp);
+                m.state = s.next(sp);
             }
             Some(Way::NextFlagged(sp)) => {
-                m.state = m.state.next_flagged(sp);
+                m.state = s.next_flagged(sp);
             }
             Some(Way::Jump(to, sp)) => {
                 let at = to.0 as usize;
                 goal = at + (goal - pc - 1);
-                m.state = m.state.jump(to, sp);
+                m.state = s.jump(to, sp);
                 if last <= at {
                     return left_here(m, goal);
                 }

@@ -26,22 +26,22 @@ loop-sp-init c =
 pub invariant_of-m : goal.invariant_of-m
 invariant_of-m c =
     let d = rw c.in-Some-Next.field-0-is at c.in-Some-Next.ensures in
-    record { ready = rw (c.next-m.ensures, d.1.state) (moved_on c.loop-sp.invariant.0 d.0 d.1.carried refl).so_far.ready }
+    record { ready = rw c.next-m.ensures (moved_on c.loop-sp.invariant.0 d.0 d.1.carried refl).so_far.ready }
 
 pub loop-sp-preserved-in-Next-1 : goal.loop-sp-preserved-in-Next-1
 loop-sp-preserved-in-Next-1 c =
     let d = rw c.in-Some-Next.field-0-is at c.in-Some-Next.ensures in
-    (rw (c.next-m.ensures, d.1.state) (moved_on c.loop-sp.invariant.0 d.0 d.1.carried refl), d.1.image ∙ c.loop-sp.invariant.1)
+    (rw c.next-m.ensures (moved_on c.loop-sp.invariant.0 d.0 d.1.carried refl), d.1.image ∙ c.loop-sp.invariant.1)
 
 pub invariant_of-m-in-Some-NextFlagged : goal.invariant_of-m-in-Some-NextFlagged
 invariant_of-m-in-Some-NextFlagged c =
     let d = rw c.in-Some-NextFlagged.field-0-is at c.in-Some-NextFlagged.ensures in
-    record { ready = rw (c.next_flagged-m.ensures, d.1.state) (moved_on c.loop-sp.invariant.0 d.0 d.1.carried refl).so_far.ready }
+    record { ready = rw c.next_flagged-m.ensures (moved_on c.loop-sp.invariant.0 d.0 d.1.carried refl).so_far.ready }
 
 pub loop-sp-preserved-in-NextFlagged-1 : goal.loop-sp-preserved-in-NextFlagged-1
 loop-sp-preserved-in-NextFlagged-1 c =
     let d = rw c.in-Some-NextFlagged.field-0-is at c.in-Some-NextFlagged.ensures in
-    (rw (c.next_flagged-m.ensures, d.1.state) (moved_on c.loop-sp.invariant.0 d.0 d.1.carried refl), d.1.image ∙ c.loop-sp.invariant.1)
+    (rw c.next_flagged-m.ensures (moved_on c.loop-sp.invariant.0 d.0 d.1.carried refl), d.1.image ∙ c.loop-sp.invariant.1)
 
 pub invariant_of-m-in-Some-Jump : goal.invariant_of-m-in-Some-Jump
 invariant_of-m-in-Some-Jump c =
