@@ -1,20 +1,17 @@
 -- What is put: a copy over a part of the buffer, text after text, and a number's last digit after the others.
 use Prim.Native.Nat.{ℕ, suc, ◌+◌, ◌≤◌}
 use mathlib.Core.Path.{◌≡◌}
-use mathlib.Core.List.{List, [], ◌∷◌, ◌++◌, append_assoc}
+use mathlib.Core.List.{List, [], ◌∷◌, ◌++◌}
 use native.Mathlib.Nat.{add-zero, add-suc, suc-add}
 use native.Mathlib.Omega.{arith}
 use lib.ListN.{length, drop, set, length-append}
-use lib.Seq.{sets, sets-eq, length-sets, drop-drop}
-use borrow.Rule.Slice.PartMut.{put_mid}
+use lib.Seq.{sets, sets-eq, length-sets}
+use Rattle.memory.proofs.Copies.{stored}
 use Rattle.text.specs.declared.Text.{Text}
 use Rattle.text.specs.Text.{Puts}
 use Rattle.text.proofs.Decimals.{one_digit, more_digits}
 
-pub copied : (a k : ℕ) (m t : List ℕ) → k ≡ length t → a + k ≤ length m → put_mid a k m t ≡ sets m a t
-copied a k m t e h = rw (e, sets-eq t m a (omega arith)) (simp (append_assoc, drop-drop))
-
-pub ruleset copies = (copied, length-sets)
+pub ruleset copies = (stored, length-sets)
 
 sets_then : (s t m : List ℕ) (a : ℕ) → sets (sets m a s) (a + length s) t ≡ sets m a (s ++ t)
 sets_then [] t m a = rw add-zero
