@@ -1,4 +1,5 @@
-// What the instructions compute on words: A is the top of the stack, B the second.
+// What the instructions compute on words: A is the top of the stack, B the second. The members of a family are an enumeration and no
+// closures, since the definitions' table and the theorems over its rows speak of them.
 #![tactic(auto)]
 
 ghost use Rattle.std.specs.Prelude.{◌≡◌, ◌*◌, ◌/◌, ◌<◌};

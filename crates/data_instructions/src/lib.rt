@@ -1,5 +1,5 @@
 // The families, whose members differ in an operation or a width: operations on the top words, loads and stores.
-#![tactic(auto, using(std::proofs::lemmas::Bool::Decides::nat_tests), unfolding(machine::specs::Table::effect_of, machine::specs::Table::row))]
+#![tactic(auto, unfolding(machine::specs::Table::effect_of, machine::specs::Table::row))]
 
 ghost use Rattle.std.specs.Prelude.{◌≡◌};
 ghost use Rattle.machine.specs.declared.Width.TheVariants.{Half};

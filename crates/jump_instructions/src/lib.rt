@@ -1,5 +1,5 @@
 // The instructions that set the counter: jumps, calls and branches.
-#![tactic(auto, using(std::proofs::lemmas::Bool::Decides::nat_tests, memory::proofs::Memory::none_written), unfolding(machine::specs::Table::effect_of, machine::specs::Table::row))]
+#![tactic(auto, using(memory::proofs::Memory::none_written), unfolding(machine::specs::Table::effect_of, machine::specs::Table::row))]
 
 mod branches;
 mod calls;

@@ -1,5 +1,5 @@
 -- What a stack word at an offset being there, or not, makes of an effect, over the offset: STORESP, LOADSP and ADDSP, and with n = 1
--- whatever reads the second; and a push that has room.
+-- whatever reads the second. So document 01 wants it proved; the code's one test is `Machine::word`. And a push that has room.
 use Rattle.std.proofs.Common.{◌≡◌, ℕ, ◌+◌, ◌-◌, ◌*◌, ◌/◌, ◌<◌, ◌≤◌, ltb, List, [], ◌∷◌, length, refl, ◌∙◌, inl, inr, arith, le-ltb, lt-ltb}
 use Rattle.memory.specs.Memory.{set_bytes}
 use Rattle.machine.specs.Effects.{Effect, Effect.refuse, Effect.go}

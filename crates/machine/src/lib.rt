@@ -32,7 +32,7 @@ pub enum Outcome {
     Divide,
 }
 
-// How many bytes a load or a store moves.
+// How many bytes a load or a store moves: a case each of the definitions' rows, as the operations are.
 #[derive(Clone, Copy)]
 pub enum Width {
     Word,

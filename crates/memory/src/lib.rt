@@ -5,8 +5,8 @@ ghost use Rattle.std.specs.Prelude.{◌≡◌, ◌+◌, ◌*◌, ◌/◌, ◌^�
 ghost use Rattle.memory.specs.Memory.{good_length, get_bytes, set_bytes, word};
 
 // The address of a byte: what the program counter is, and what LOAD and STORE take. Its conversions have names: document 01 has
-// one each way, and `From` would not say that it drops the two low bits. Indexes of a slice are made of 32 bits by `as`, for which
-// there is no `From`.
+// one each way, and `From` would not say that it drops the two low bits. Indexes of a slice are made of 32 bits, and 32 bits of an
+// index that fits, by `as`: there is no `From` for either, and the check shows that they fit.
 #[derive(Clone, Copy)]
 pub struct ByteAddr(pub u32);
 
@@ -92,7 +92,7 @@ pub fn write_byte(image: &mut [u8], a: ByteAddr, v: u32)
     image[a.0 as usize] = (v % 256) as u8;
 }
 
-#[tactic(auto, using(crate::proofs::Copies::stored), unfolding(crate::specs::Memory::set_bytes))]
+#[tactic(auto, unfolding(crate::specs::Memory::set_bytes))]
 pub fn write_half(image: &mut [u8], a: ByteAddr, v: u32)
     requires { a.0 + 1 < length image.old }
     ensures { image.new ≡ set_bytes image.old a.0 2 v }

@@ -1,4 +1,4 @@
-// A line: core, outcome, counter, sp and top, a blank between.
+// A line: core, outcome, counter, sp and top, a blank between. Each part says how far it comes at most, by which the next has room.
 ghost use Rattle.std.specs.Prelude.{◌≡◌, ◌∷◌, ◌+◌, ◌≤◌};
 ghost use Rattle.machine.specs.Run.{handed_back};
 ghost use Rattle.text.specs.Decimal.{decimal};

@@ -19,7 +19,7 @@ const NARROW_LIMIT: u32 = microcode::STEP_BOUND * WIDE_LIMIT;
 
 const START: u32 = microcode::LENGTH as u32;
 
-// Whether an image of so many bytes is taken.
+// Whether an image of so many bytes is taken. As `good_length` over other bounds: a function of the two bounds would be no shorter.
 #[tactic(auto, unfolding(crate::specs::Sessions::takes))]
 pub fn takes(length: usize) -> bool
     ensures { result ≡ takes length }

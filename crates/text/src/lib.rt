@@ -6,6 +6,7 @@ ghost use Rattle.text.specs.Decimal.{decimal};
 ghost use Rattle.text.specs.Text.{Puts, Room};
 
 // The text so far is the first `at` bytes. It is no `fmt::Write`, each write of which may fail by its contract: these cannot.
+// That there is room each asks for, since it depends on what is put.
 #[derive(Drop)]
 pub struct Text<'a> {
     out: &'a mut [u8],

@@ -62,7 +62,7 @@ fn run_from(core: Core, m: &mut Machine, limit: u32) -> Finish
 }
 
 // IMAGE and START, which are tested once.
-#[tactic(auto, using(std::proofs::lemmas::Bool::Decides::nat_tests), unfolding(memory::specs::Memory::good_length))]
+#[tactic(auto, unfolding(memory::specs::Memory::good_length))]
 fn entry(image: &[u8], start: State) -> Result<(), Outcome>
     ensures { Enters image.now start result }
 {

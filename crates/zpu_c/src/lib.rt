@@ -27,7 +27,8 @@ pub struct CEnd {
     pub state: CState,
 }
 
-// C has numbers for cores and outcomes and for what `lay` answers. Any number is a core's, so this is no `TryFrom`.
+// C has numbers for cores and outcomes and for what `lay` answers. Any number is a core's; a `From` of it would be between two types
+// of other crates.
 fn core_of(n: u32) -> Core
     ensures { result ≡ core_of n }
 {
@@ -46,6 +47,7 @@ impl From<CState> for State {
     }
 }
 
+// The end is put into C's form here and by no `From`: that its sp fits 32 bits is known of this run alone.
 #[unsafe(no_mangle)]
 pub extern "C" fn zpu_run(image: &mut [u8], start: CState, core: u32, limit: u32) -> CEnd
     ensures { Tells result image.new (run (core_of core) limit (place image.old (state_of start))) }

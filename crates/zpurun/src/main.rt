@@ -12,7 +12,7 @@ use std::io::{Read, Write};
 const INPUT: usize = report::LONGEST + 1;
 
 // Reads until the buffer is full, the input ends or a read fails: how many bytes it put at the start of the buffer. They are
-// counted by the read, and not one by one, so this is no `for`.
+// no image yet, so it is a number; and counted by the read, and not one by one, so this is no `for`.
 fn read_full<R: Read>(input: &mut R, buffer: &mut [u8]) -> usize
     ensures in_bounds { result ≤ length buffer.new }
     ensures bytes { Consumes (R.remaining input.old) (R.remaining input.new) (take result buffer.new) }

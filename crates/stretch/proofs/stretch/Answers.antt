@@ -51,12 +51,11 @@ invariant_of-m-in-Some-Jump c =
 pub returns-then-last-at : goal.returns-then-last-at
 returns-then-last-at c =
     let d = rw c.in-Some-Jump.field-0-is at c.in-Some-Jump.ensures in
-    let left = c.loop-sp.goal - c.loop-sp.m.state.pc.0 - 1 in
-    let to = c.in-Some-Jump.to.0 in
     let h = c.left_here.ensures in
+    let left = rw c.jump-m.ensures at h.left in
     record {
-      reaches = rw (h.left, h.machine.memory, h.machine.state, c.jump-m.ensures)
-          (came c.loop-sp.invariant.0 d.0 d.1.carried (to + left - to) (omega arith)).reaches;
+      reaches = rw (h.machine.memory, h.machine.state, c.jump-m.ensures)
+          (came c.loop-sp.invariant.0 d.0 d.1.carried c.left_here.result (omega (arith, left))).reaches;
       image = h.machine.image ∙ d.1.image ∙ c.loop-sp.invariant.1;
     }
 
