@@ -10,22 +10,22 @@ pub fn neqbranch(m: &Machine) -> Result<Way, Outcome>
     ensures { Does m.now NEQBRANCH result m.now }
 {
     let second = m.word(1)?;
-    let popped = WordIndex(second.0 + 1);
-    if m.read(second) == 0 {
-        return Ok(Way::Next(popped));
-    }
     let a = m.read(m.state.sp);
-    Ok(Way::Jump(Target::Relative.of(m.state, a), popped))
+    let b = m.read(second);
+    if b == 0 {
+        return Ok(Way::Next(WordIndex(second.0 + 1)));
+    }
+    Ok(Way::Jump(Target::Relative.of(m.state, a), WordIndex(second.0 + 1)))
 }
 
 pub fn eqbranch(m: &Machine) -> Result<Way, Outcome>
     ensures { Does m.now EQBRANCH result m.now }
 {
     let second = m.word(1)?;
-    let popped = WordIndex(second.0 + 1);
-    if m.read(second) != 0 {
-        return Ok(Way::Next(m.state.sp));
-    }
     let a = m.read(m.state.sp);
-    Ok(Way::Jump(Target::Relative.of(m.state, a), popped))
+    let b = m.read(second);
+    if b == 0 {
+        return Ok(Way::Jump(Target::Relative.of(m.state, a), WordIndex(second.0 + 1)));
+    }
+    Ok(Way::Next(m.state.sp))
 }
