@@ -1,7 +1,7 @@
 // The instructions that programs are mostly made of, told by the class of a byte. What is none of them is left alone, and so is
 // what is refused, and everything where the run is to pause. Each arm tests for that by itself, for speed (docs/CHANGING.md); a
-// table of functions would be no plainer. The
-// class and its byte, which agree, are two arguments: a struct of them would be made for these two functions alone.
+// table of functions would be no plainer. The class and its byte, which agree, are two arguments: a struct of them would be made
+// for these two functions alone.
 #![tactic(auto)]
 
 ghost use Rattle.std.specs.Prelude.{◌≡◌, false, ◌%◌};
