@@ -22,7 +22,7 @@ unfolding word_of
 word_of_lt (pos n) = omega arith
 word_of_lt (negsuc n) = omega arith
 
-reversed : (k x a : ℕ) → reverse_bits_onto k x a ≡ a * 2 ^ k + flipped k x
+pub reversed : (k x a : ℕ) → reverse_bits_onto k x a ≡ a * 2 ^ k + flipped k x
 unfolding reverse_bits_onto flipped
 reversed zero x a = omega arith
 reversed (suc k) x a = reversed k (x / 2) (a * 2 + x % 2) ∙ simp (pow-suc, add-mul, mul_assoc, mul_comm 2 (2 ^ k), add_assoc)

@@ -7,6 +7,20 @@ use Rattle.machine.specs.declared.Core.TheVariants.{Wide}
 use Rattle.machine.specs.Instructions.{Instr, Instr.ADDSP, Instr.ILLEGAL, below16, wide32to63, below32, below64, decode, among}
 use Rattle.dispatch.specs.Families.{families}
 
+-- what the last arm of a match on the keys knows, T before it
+abbrev pub NoneOf : Type 0 → List ℕ → ℕ → Type 0
+NoneOf T [] n = T
+NoneOf T (k ∷ ks) n = NoneOf (T × (n ≡ k → ⊥)) ks n
+
+tested : (T : Type 0) (ks : List ℕ) (n : ℕ) → NoneOf T ks n → T × (among n ks ≡ false)
+tested T [] n r = (r, refl)
+tested T (k ∷ ks) n r =
+    let (p, e) : (T × (n ≡ k → ⊥)) × (among n ks ≡ false) = tested (T × (n ≡ k → ⊥)) ks n r
+    in (p.0, rw (ne_eqb n k p.1) e)
+
+pub none : (ks : List ℕ) (n : ℕ) → NoneOf (Unit {0}) ks n → among n ks ≡ false
+none ks n r = (tested (Unit {0}) ks n r).1
+
 -- a list whose first place is j, without the instructions at the places that are among the keys
 abbrev without : (ℕ → Bool) → ℕ → List Instr → List Instr
 without gone j [] = []

@@ -4,10 +4,13 @@ use mathlib.Core.Path.{◌≡◌, refl, sym, ap, ◌∙◌}
 use mathlib.Core.Bool.{true, false}
 use mathlib.Core.List.{List}
 use mathlib.Core.Option.{some}
+use mathlib.Core.Logic.{◌⊎◌, ⊎_elim}
 use native.Mathlib.Omega.{arith}
 use native.Mathlib.Nat.{add-zero, zero-add}
 use lib.ListN.{length}
+use denote.Enum.Declared.{tag_of}
 use borrow.Author.Tests.{le-leb, lt-leb}
+use Rattle.machine.specs.contracts.Answer
 use Rattle.machine.specs.declared.Core.{Core}
 use Rattle.machine.specs.declared.State.{State}
 use Rattle.machine.specs.declared.Outcome.TheVariants.{Limit, Image, Start}
@@ -57,6 +60,12 @@ module _ (core : Core) (n : ℕ) (p : Place) {m : List ℕ} {s : State} (so_far 
         ∙ run_follows core n (suc (l - n - 1)) 0 p (place m s) so_far
         ∙ ends_there m s e (0 + n) (run_from core (l - n - 1)) (λ t q. k t (done.answer ∙ q))
         ∙ rw (done.answer, done.memory, zero-add)
+
+-- an answer whose tag is none of `Done`'s
+pub not_done : (a : Answer) → (tag_of Answer.the_type a ≡ 1) ⊎ (tag_of Answer.the_type a ≡ 2) → (t : State) → a ≡ Done t → ⊥
+not_done a h t e =
+    let z : tag_of Answer.the_type a ≡ 0 = rw e in
+    ⊎_elim (λ x. let y : ◌≡◌ {A = ℕ} 0 1 = cc in omega arith) (λ x. let y : ◌≡◌ {A = ℕ} 0 2 = cc in omega arith) h
 
 module _ (core : Core) (l : ℕ) (m : List ℕ) (s : State) where
   pub run_image : good_length (length m) ≡ false → run core l (place m s) ≡ ended Image 0 (place m s)

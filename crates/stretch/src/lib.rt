@@ -40,9 +40,9 @@ pub fn stretch(core: Core, m: &mut Machine, left: u32) -> u32
         let byte = m.image[pc];
         let class = classes::class_of(byte);
         match common_instructions::carry_out(core, class, m, byte, pc == halt) {
-            Some(Way::Next(sp)) => m.state = s.next(sp),
-            Some(Way::NextFlagged(sp)) => m.state = s.next_flagged(sp),
-            Some(Way::Jump(to, sp)) => {
+            Some(Ok(Way::Next(sp))) => m.state = s.next(sp),
+            Some(Ok(Way::NextFlagged(sp))) => m.state = s.next_flagged(sp),
+            Some(Ok(Way::Jump(to, sp))) => {
                 let at = to.0 as usize;
                 goal = at + (goal - pc - 1);
                 m.state = s.jump(to, sp);

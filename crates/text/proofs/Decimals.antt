@@ -34,7 +34,7 @@ more_digits n h =
     spare n (suc n) n (omega arith) (omega arith)
     ∙ rw (le-ltb n 10 h, spare n (n / 10) (n / 10) (omega arith) (omega arith))
 
-at_most : (k n : ℕ) → n < 10 ^ suc k → length (decimal n) ≤ suc k
+pub at_most : (k n : ℕ) → n < 10 ^ suc k → length (decimal n) ≤ suc k
 at_most zero n h = rw (one_digit n h) (omega arith)
 at_most (suc k) n h = by_size (dec_lt n 10) (at_most k (n / 10) (omega (arith, pow-suc 10 (suc k))))
   where

@@ -25,32 +25,32 @@ loop-sp-init c =
 
 pub invariant_of-m : goal.invariant_of-m
 invariant_of-m c =
-    let d = rw c.in-Some-Next.field-0-is at c.in-Some-Next.ensures in
+    let d = rw (c.in-Some-Ok-Next.field-0-is, c.in-Some-Ok-Next.field-0-0-is) at c.in-Some-Ok-Next.ensures in
     record { ready = rw c.next-m.ensures (moved_on c.loop-sp.invariant.0 d.0 d.1.carried refl).so_far.ready }
 
 pub loop-sp-preserved-in-Next-1 : goal.loop-sp-preserved-in-Next-1
 loop-sp-preserved-in-Next-1 c =
-    let d = rw c.in-Some-Next.field-0-is at c.in-Some-Next.ensures in
+    let d = rw (c.in-Some-Ok-Next.field-0-is, c.in-Some-Ok-Next.field-0-0-is) at c.in-Some-Ok-Next.ensures in
     (rw c.next-m.ensures (moved_on c.loop-sp.invariant.0 d.0 d.1.carried refl), d.1.image ∙ c.loop-sp.invariant.1)
 
-pub invariant_of-m-in-Some-NextFlagged : goal.invariant_of-m-in-Some-NextFlagged
-invariant_of-m-in-Some-NextFlagged c =
-    let d = rw c.in-Some-NextFlagged.field-0-is at c.in-Some-NextFlagged.ensures in
+pub invariant_of-m-in-Some-Ok-NextFlagged : goal.invariant_of-m-in-Some-Ok-NextFlagged
+invariant_of-m-in-Some-Ok-NextFlagged c =
+    let d = rw (c.in-Some-Ok-NextFlagged.field-0-is, c.in-Some-Ok-NextFlagged.field-0-0-is) at c.in-Some-Ok-NextFlagged.ensures in
     record { ready = rw c.next_flagged-m.ensures (moved_on c.loop-sp.invariant.0 d.0 d.1.carried refl).so_far.ready }
 
 pub loop-sp-preserved-in-NextFlagged-1 : goal.loop-sp-preserved-in-NextFlagged-1
 loop-sp-preserved-in-NextFlagged-1 c =
-    let d = rw c.in-Some-NextFlagged.field-0-is at c.in-Some-NextFlagged.ensures in
+    let d = rw (c.in-Some-Ok-NextFlagged.field-0-is, c.in-Some-Ok-NextFlagged.field-0-0-is) at c.in-Some-Ok-NextFlagged.ensures in
     (rw c.next_flagged-m.ensures (moved_on c.loop-sp.invariant.0 d.0 d.1.carried refl), d.1.image ∙ c.loop-sp.invariant.1)
 
-pub invariant_of-m-in-Some-Jump : goal.invariant_of-m-in-Some-Jump
-invariant_of-m-in-Some-Jump c =
-    let d = rw c.in-Some-Jump.field-0-is at c.in-Some-Jump.ensures in
+pub invariant_of-m-in-Some-Ok-Jump : goal.invariant_of-m-in-Some-Ok-Jump
+invariant_of-m-in-Some-Ok-Jump c =
+    let d = rw (c.in-Some-Ok-Jump.field-0-is, c.in-Some-Ok-Jump.field-0-0-is) at c.in-Some-Ok-Jump.ensures in
     record { ready = rw c.jump-m.ensures (came c.loop-sp.invariant.0 d.0 d.1.carried _ refl).ready }
 
 pub returns-then-last-at : goal.returns-then-last-at
 returns-then-last-at c =
-    let d = rw c.in-Some-Jump.field-0-is at c.in-Some-Jump.ensures in
+    let d = rw (c.in-Some-Ok-Jump.field-0-is, c.in-Some-Ok-Jump.field-0-0-is) at c.in-Some-Ok-Jump.ensures in
     let h = c.left_here.ensures in
     let left = rw c.jump-m.ensures at h.left in
     record {
@@ -61,8 +61,8 @@ returns-then-last-at c =
 
 pub loop-sp-preserved : goal.loop-sp-preserved
 loop-sp-preserved c =
-    let d = rw c.in-Some-Jump.field-0-is at c.in-Some-Jump.ensures in (
+    let d = rw (c.in-Some-Ok-Jump.field-0-is, c.in-Some-Ok-Jump.field-0-0-is) at c.in-Some-Ok-Jump.ensures in (
       rw c.jump-m.ensures
-          (jumped c.loop-sp.invariant.0 d.0 d.1.carried (omega arith) (omega arith) c.min-halt-in-Some-Jump.ensures),
+          (jumped c.loop-sp.invariant.0 d.0 d.1.carried (omega arith) (omega arith) c.min-halt-in-Some-Ok-Jump.ensures),
       d.1.image ∙ c.loop-sp.invariant.1,
     )
