@@ -1,7 +1,7 @@
 // Reads an image on standard input, and prints how it ends on the wide and on the narrow core.
 #![tactic(auto)]
 
-ghost use Rattle.std.specs.Prelude.{◌<◌, ◌≤◌, length, take, IsTrue, IfSome, OnOk};
+ghost use Rattle.std.specs.Prelude.{◌≡◌, ◌<◌, ◌≤◌, length, take, IsTrue, IfSome, OnOk};
 ghost use Rattle.std.specs.Io.KnownBytes.{Consumes, IsAtEnd};
 ghost use Rattle.zpurun.specs.Printing.{most, IsFront, Prints};
 
@@ -30,7 +30,8 @@ fn read_full<R: Read>(input: &mut R, buffer: &mut [u8]) -> usize
 // Whether the bytes read are the whole input, or more than an image has. `read_full` stops at a read that fails, as one of a
 // non-blocking input may, just as at the end; but only at the end does one more read answer 0.
 fn is_whole<R: Read>(input: &mut R, length: usize) -> bool
-    ensures { IsTrue result → length < most → IsAtEnd (R.remaining input.old) }
+    ensures whole { IsTrue result → length < most → IsAtEnd (R.remaining input.old) }
+    ensures no_more { length ≡ most → R.remaining input.new ≡ R.remaining input.old }
 {
     let mut next = [0u8; 1];
     length == INPUT || matches!(input.read(&mut next), Ok(0))

@@ -9,4 +9,4 @@ returns g c =
     rw c.then_some.ensures
     (if_true c.is_whole.result _ (λ s. IsFront (g.R.Read.remaining c.args.input.now) s.now) λ whole.
     subst (λ n. IsFront (g.R.Read.remaining c.args.input.now) (take n read.new.buffer)) (omega arith)
-    (is_front _ _ read.new.buffer read.result (search rules) (search rules) read.ensures.bytes (c.is_whole.ensures whole)))
+    (is_front _ _ read.new.buffer read.result (search rules) (search rules) read.ensures.bytes (c.is_whole.ensures.whole whole)))
